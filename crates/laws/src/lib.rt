@@ -1,0 +1,1 @@
+// General laws, in specs/: signed numbers and lists. There is no code.

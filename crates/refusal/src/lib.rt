@@ -1,0 +1,42 @@
+// Document 01's refusal numbers, and the tests of sizes and places that every entry point shares.
+ghost use Rattle.refusal.specs.Refusals.{BadSizeSays, BadPlaceSays};
+
+pub const SIZE: u8 = 1;
+
+pub const LENGTH: u8 = 2;
+
+pub const COUNT: u8 = 3;
+
+pub const PLACE: u8 = 4;
+
+pub const OPACITY: u8 = 5;
+
+pub const COLOUR: u8 = 6;
+
+pub const PIXEL: u8 = 7;
+
+// w or h outside 1..256
+pub fn bad_size(w: usize, h: usize) -> bool
+    ensures { λ r. ⌜ BadSizeSays w h r ⌝ }
+{
+    if w < 1 {
+        return true;
+    }
+    if 256 < w {
+        return true;
+    }
+    if h < 1 {
+        return true;
+    }
+    256 < h
+}
+
+// a coordinate or radius outside -8191..8191
+pub fn bad_place(z: i32) -> bool
+    ensures { λ r. ⌜ BadPlaceSays z r ⌝ }
+{
+    if z < -8191 {
+        return true;
+    }
+    8191 < z
+}
