@@ -11,6 +11,7 @@ pub mod Bounds
 -- Tests of numbers, and lists.
 pub mod Ends
 pub mod EndsLaws
+pub mod Runs
 pub mod Rows
 pub mod RowLaws
 pub mod Index
