@@ -13,7 +13,7 @@ use Rattle.laws.specs.Bound.{Bounded}
 use Rattle.laws.specs.Parts.{zord, one-zero}
 use Rattle.laws.specs.Fit.{of-abs, lt-false, no-both}
 use Rattle.laws.specs.Bools.{is-true, true-is, true-or-false, and-left, and-right, or-left, or-right}
-use Rattle.refusal.specs.Refusals.{Test, lowest, badSize, badPlace, BadSizeSays, BadPlaceSays}
+use Rattle.refusal.specs.Refusals.{Test, lowest, Sized, badSize, badPlace, BadSizeSays, BadPlaceSays}
 
 pub BadSizeSays-unique : (w h : ℕ) (r s : Bool) → BadSizeSays w h r → BadSizeSays w h s → r ≡ s
 BadSizeSays-unique w h r s p q = p ∙ sym q
@@ -150,12 +150,6 @@ lowest-least n (t ∷ r) p h =
     by false q (inr y) z i = i y
 
 -- ---- what a passed test gives
-
-pub record Sized (w h : ℕ) : Type 0 where
-  pub w-low : 1 ≤ w
-  pub w-high : w ≤ 256
-  pub h-low : 1 ≤ h
-  pub h-high : h ≤ 256
 
 pub sized : (w h : ℕ) → badSize w h ≡ false → Sized w h
 unfolding badSize
