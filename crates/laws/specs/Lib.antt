@@ -16,5 +16,7 @@ pub mod EndsLaws
 pub mod Runs
 pub mod Rows
 pub mod RowLaws
+pub mod Tab
+pub mod TabLaws
 pub mod Index
 pub mod Fill
