@@ -1,8 +1,6 @@
 -- The loop carries the test of the elements passed.
-use mathlib.Core.Path.{_≡_, refl, sym, ap, _∙_}
-use Prim.Native.Nat.{ℕ, _≤_, _-_}
-use mathlib.Core.Bool.{Bool, _&&_}
-use mathlib.Core.List.{List}
+use mathlib.Core.Path.{_≡_, refl}
+use Prim.Native.Nat.{_≤_, _-_}
 use lib.ListN.{length, take, getD}
 use lib.Ieee.{nan, eq}
 use Rattle.float.specs.Numbers.{itself-number}
