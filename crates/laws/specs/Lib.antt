@@ -20,3 +20,5 @@ pub mod Tab
 pub mod TabLaws
 pub mod Index
 pub mod Fill
+pub mod Every
+pub mod EveryLaws
