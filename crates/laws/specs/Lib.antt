@@ -1,5 +1,6 @@
 -- Signed numbers.
 pub mod Bound
+pub mod Quotient
 pub mod Parts
 pub mod Ring
 pub mod Rep
@@ -8,12 +9,15 @@ pub mod Order
 pub mod Fit
 pub mod Div
 pub mod Bounds
+pub mod Bools
 -- Tests of numbers, and lists.
 pub mod Ends
 pub mod EndsLaws
 pub mod Runs
 pub mod Rows
 pub mod RowLaws
+pub mod Tab
+pub mod TabLaws
 pub mod Index
 pub mod Fill
 pub mod Every
