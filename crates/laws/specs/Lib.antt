@@ -13,6 +13,7 @@ pub mod Bools
 pub mod Ends
 pub mod EndsLaws
 pub mod Runs
+pub mod Holds
 pub mod Rows
 pub mod RowLaws
 pub mod Index

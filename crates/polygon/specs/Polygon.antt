@@ -5,7 +5,7 @@ use mathlib.Core.List.{List, [], _∷_}
 use Prim.Native.Nat.{ℕ, _≤_}
 use lib.ListN.{length, getD, replicate}
 use lib.IntN.{ℤ, pos, _-ℤ_, _*ℤ_}
-use lib.Signed.{leZ, ltZ}
+use lib.Signed.{_≤ℤ_, leZ, ltZ}
 use Rattle.laws.specs.Bound.{Bounded}
 use Rattle.laws.specs.Runs.{allHold, runsOf}
 
@@ -80,6 +80,13 @@ greatestOf [] = pos 0
 greatestOf (a ∷ []) = a
 greatestOf (a ∷ b ∷ r) = greater a (greatestOf (b ∷ r))
 
+-- between the lowest and the highest corner row, and between the leftmost and the rightmost corner column
+pub record InBox (xs ys : List ℤ) (p : Point) : Type 0 where
+  pub top : leastOf ys ≤ℤ p .py
+  pub bottom : p .py ≤ℤ greatestOf ys
+  pub left : leastOf xs ≤ℤ p .px
+  pub right : p .px ≤ℤ greatestOf xs
+
 -- ---- what fill_runs asks and promises
 -- three corners or more, within the coordinate range
 pub record InRange (xs ys : List ℤ) : Type 0 where
@@ -87,12 +94,6 @@ pub record InRange (xs ys : List ℤ) : Type 0 where
   pub three : 3 ≤ length xs
   pub x : (i : ℕ) → Bounded 8191 (getD xs i (pos 0))
   pub y : (i : ℕ) → Bounded 8191 (getD ys i (pos 0))
-
-pub record Sized (w h : ℕ) : Type 0 where
-  pub w-least : 1 ≤ w
-  pub w-most : w ≤ 256
-  pub h-least : 1 ≤ h
-  pub h-most : h ≤ 256
 
 -- no run is written yet
 abbrev pub Blank : List ℕ → Type 0
