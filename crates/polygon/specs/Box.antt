@@ -17,7 +17,8 @@ use Rattle.laws.specs.Poly.{Ex, x, c, _⊞_, _⊟_, _⊠_, ring}
 use Rattle.laws.specs.Bools.{and-left, and-right, or-either, true-or-false}
 use Rattle.laws.specs.Fit.{no-both}
 use Rattle.laws.specs.Runs.{allHold}
-use Rattle.polygon.specs.Polygon.{Point, at, side, area2, areaTest, edgeTest, edgesTo, round, polygonTests, polygon, corners, lesser, greater, leastOf, greatestOf, InBox}
+use Rattle.whole.specs.Whole.{lesser, greater}
+use Rattle.polygon.specs.Polygon.{Point, at, side, area2, areaTest, edgeTest, edgesTo, round, polygonTests, polygon, corners, leastOf, greatestOf, InBox}
 use Rattle.polygon.specs.Steps.{signOf}
 use Rattle.polygon.specs.Sides.{edge-inner}
 

@@ -7,6 +7,7 @@ use lib.ListN.{length, getD, replicate}
 use lib.IntN.{ℤ, pos, _-ℤ_, _*ℤ_}
 use lib.Signed.{_≤ℤ_, leZ, ltZ}
 use Rattle.laws.specs.Bound.{Bounded}
+use Rattle.whole.specs.Whole.{lesser, greater}
 use Rattle.laws.specs.Runs.{allHold, runsOf}
 
 pub record Point : Type 0 where
@@ -64,12 +65,6 @@ abbrev pub polygonPixel : List Point → ℕ → ℕ → Bool
 polygonPixel v x y = polygon v (at (pos x) (pos y))
 
 -- the lowest and the highest of a list, for the row reach; of no number, 0
-abbrev pub lesser : ℤ → ℤ → ℤ
-lesser a b = cond (leZ a b) a b
-
-abbrev pub greater : ℤ → ℤ → ℤ
-greater a b = cond (leZ a b) b a
-
 unfoldable pub leastOf : List ℤ → ℤ
 leastOf [] = pos 0
 leastOf (a ∷ []) = a
