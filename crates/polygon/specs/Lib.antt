@@ -5,4 +5,5 @@ pub mod Steps
 -- Proved of them.
 pub mod Sides
 pub mod Box
+pub mod StepLaws
 pub mod PolygonLaws

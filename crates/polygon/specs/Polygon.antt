@@ -97,3 +97,8 @@ Blank out = out ≡ replicate 512 0
 -- what is lent ends as the runs of the covered pixels, all 256 rows
 abbrev pub FillRunsSays : List ℤ → List ℤ → ℕ → ℕ → List ℕ → Type 0
 FillRunsSays xs ys w h after = after ≡ runsOf (polygonPixel (corners xs ys)) w h
+
+-- what extent_of promises
+pub record ExtentOfSays (zs : List ℤ) (least greatest : ℤ) : Type 0 where
+  pub low : least ≡ leastOf zs
+  pub high : greatest ≡ greatestOf zs
