@@ -6,4 +6,5 @@ pub mod Steps
 pub mod Sides
 pub mod Box
 pub mod StepLaws
+pub mod Around
 pub mod PolygonLaws

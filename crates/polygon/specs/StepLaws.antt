@@ -15,6 +15,7 @@ use lib.IntN.{ℤ, pos, negsuc, _+ℤ_, _-ℤ_, _*ℤ_}
 use lib.Signed.{_≤ℤ_, _<ℤ_, leZ, ltZ}
 use mir.Syntax.{w32}
 use mir.Val.{toZ, ofZ}
+use Rattle.laws.specs.Bound.{Bounded}
 use Rattle.laws.specs.Bounds.{arg, ldw}
 use Rattle.laws.specs.Parts.{zord, of+, of-, of*, le←, le→, lt→}
 use Rattle.laws.specs.Rep.{v, k, _⊕_, _⊖_, _⊗_, rep-le, rep-lt, le-rep, lt-rep}
@@ -22,6 +23,7 @@ use Rattle.laws.specs.Order.{*ℤ-mono, *ℤ-anti, <ℤ→≤ℤ, ≤ℤ-or-<�
 use Rattle.whole.specs.Whole.{Largest, Least, lesser, greater, ClampI64Says}
 use Rattle.whole.specs.WholeLaws.{clamp-is}
 use Rattle.polygon.specs.Polygon.{Point, at, side, area2, corners, leastOf, greatestOf, InRange, ExtentOfSays}
+use Rattle.polygon.specs.Sides.{line}
 use Rattle.polygon.specs.Steps.{Placed, signOf, nextOf, Kept, Above, Inner}
 
 -- ---- the corner after i
@@ -48,6 +50,13 @@ sign-above area e = rw e refl
 
 pub sign-below : (area : ℤ) → ltZ (pos 0) area ≡ false → negsuc 0 ≡ signOf area
 sign-below area e = rw e refl
+
+pub sign-bounded : (area : ℤ) → Bounded 1 (signOf area)
+sign-bounded area = by (ltZ (pos 0) area)
+  where
+    by : (b : Bool) → Bounded 1 (cond b (pos 1) (negsuc 0))
+    by true = record { within = omega arith }
+    by false = record { within = omega arith }
 
 -- ---- the columns of a half line
 up : (x : ℕ) → pos 0 ≤ℤ pos x
@@ -109,6 +118,16 @@ module _ (a c : ℤ) (lo hi : ℕ) where
 
       over : (x : ℕ) → Above a c x → (pos 0 -ℤ c) ≤ℤ (pos x *ℤ a)
       over x r = rep-le (k 0 ⊖ v c) (k x ⊗ v a) (omega (arith, le-rep (k 0) (v a ⊗ k x ⊕ v c) r))
+
+-- along a row an edge is a half line
+pub kept-inner : (s : ℤ) (i j : Point) (y : ℤ) (lo hi left right : ℕ)
+    → Kept (Above (s *ℤ (i .py -ℤ j .py)) (s *ℤ ((j .py -ℤ i .py) *ℤ i .px +ℤ (j .px -ℤ i .px) *ℤ (y -ℤ i .py)))) lo hi left right
+    → Kept (Inner s i j y) lo hi left right
+kept-inner s i j y lo hi left right f = record {
+  within = f .within;
+  to = λ x p q. (f .to x p q .0, subst (λ (z : ℤ). pos 0 ≤ℤ z) (sym (line s i j (at (pos x) y))) (f .to x p q .1));
+  from = λ x p q h. f .from x p q (subst (λ (z : ℤ). pos 0 ≤ℤ z) (line s i j (at (pos x) y)) h);
+}
 
 -- ---- a corner as it is read from the two lists
 module _ (xs ys : List ℤ) (r : InRange xs ys) (i : ℕ) where

@@ -133,3 +133,43 @@ fn half_line(a: i64, c: i64, lo: usize, hi: usize) -> Run
         right: hi,
     }
 }
+
+// Of the columns lo up to hi of row y, those on the inner side of the edge from i to j.
+fn edge_run(xi: i32, yi: i32, xj: i32, yj: i32, sign: i64, y: i32, lo: usize, hi: usize) -> Run
+    requires from { ⌜ Placed (at xi yi) ⌝ }
+    requires to { ⌜ Placed (at xj yj) ⌝ }
+    requires sign { ⌜ Bounded 1 sign ⌝ }
+    requires row { ⌜ Bounded 8191 y ⌝ }
+    ensures { λ r. ⌜ Kept (Inner sign (at xi yi) (at xj yj) y) lo hi (r .left) (r .right) ⌝ }
+{
+    let c = diff(yj, yi) * (xi as i64) + diff(xj, xi) * diff(y, yi);
+    half_line(sign * diff(yi, yj), sign * c, lo, hi)
+}
+
+// The run of row y: what is left once each edge took off the columns on its outer side.
+fn row_run(xs: &[i32], ys: &[i32], sign: i64, w: usize, y: usize) -> Run
+    requires corners { ⌜ InRange (now xs) (now ys) ⌝ }
+    requires sign { ⌜ Signed (now xs) (now ys) sign ⌝ }
+    requires row { ⌜ y < 256 ⌝ }
+    requires columns { ⌜ 1 ≤ w ⌝ }
+    ensures { λ r. ⌜ RowRun (now (xs .entry)) (now (ys .entry)) w y (r .left) (r .right) ⌝ }
+{
+    let row = y as i32;
+    let mut left: usize = 0;
+    let mut right = w;
+    let mut i: usize = 0;
+    while i < xs.len() {
+        let j = next(i, xs.len());
+        let run = edge_run(xs[i], ys[i], xs[j], ys[j], sign, row, left, right);
+        left = run.left;
+        right = run.right;
+        if right <= left {
+            return Run { left: 0, right: 0 };
+        }
+        i += 1;
+    }
+    Run {
+        left: left,
+        right: right,
+    }
+}
