@@ -14,6 +14,8 @@ pub mod Bools
 pub mod Ends
 pub mod EndsLaws
 pub mod Runs
+pub mod Holds
+pub mod RunLaws
 pub mod Rows
 pub mod RowLaws
 pub mod Tab
