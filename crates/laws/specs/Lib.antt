@@ -12,6 +12,8 @@ pub mod Bounds
 pub mod Ends
 pub mod EndsLaws
 pub mod Runs
+pub mod RunsLaws
+pub mod Sized
 pub mod Rows
 pub mod RowLaws
 pub mod Index

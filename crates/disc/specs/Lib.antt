@@ -1,0 +1,3 @@
+pub mod Disc
+pub mod Steps
+pub mod DiscLaws
