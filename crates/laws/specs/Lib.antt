@@ -8,6 +8,7 @@ pub mod Order
 pub mod Fit
 pub mod Div
 pub mod Bounds
+pub mod Bools
 -- Tests of numbers, and lists.
 pub mod Ends
 pub mod EndsLaws

@@ -2,7 +2,7 @@
 use mathlib.Core.Path.{_≡_}
 use mathlib.Core.Bool.{Bool, true, false, _&&_, _||_, cond}
 use mathlib.Core.List.{List, [], _∷_}
-use Prim.Native.Nat.{ℕ}
+use Prim.Native.Nat.{ℕ, _≤_}
 use lib.Dec.{eqb, ltb}
 use lib.IntN.{ℤ, pos, negsuc}
 use lib.Signed.{ltZ}
@@ -47,6 +47,13 @@ badSize w h = ltb w 1 || ltb 256 w || ltb h 1 || ltb 256 h
 -- a coordinate or radius outside -8191..8191
 unfoldable pub badPlace : ℤ → Bool
 badPlace z = ltZ z (negsuc 8190) || ltZ (pos 8191) z
+
+-- what the work behind the tests rests on: sizes that passed
+pub record Sized (w h : ℕ) : Type 0 where
+  pub w-low : 1 ≤ w
+  pub w-high : w ≤ 256
+  pub h-low : 1 ≤ h
+  pub h-high : h ≤ 256
 
 -- what the two functions promise
 abbrev pub BadSizeSays : ℕ → ℕ → Bool → Type 0
