@@ -14,7 +14,8 @@ pub mod Ends
 pub mod EndsLaws
 pub mod Runs
 pub mod RunsLaws
-pub mod Sized
+pub mod Blank
+pub mod Answer
 pub mod Rows
 pub mod RowLaws
 pub mod Index
