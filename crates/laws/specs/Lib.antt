@@ -17,6 +17,8 @@ pub mod Runs
 pub mod RunsLaws
 pub mod Blank
 pub mod Answer
+pub mod Holds
+pub mod RunLaws
 pub mod Rows
 pub mod RowLaws
 pub mod Index
