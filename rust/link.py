@@ -169,8 +169,8 @@ class Rust:
             [self.rustc, "--edition", "2021", *self.words, *flags, main, "-o", out, "--extern", f"oracle={oracle}/liboracle.rlib", *link]
         )
 
-    def run(self, program, words, **more):
-        return subprocess.run([*self.runner, program, *words], **more)
+    def start(self, program, words):
+        return subprocess.Popen([*self.runner, program, *words], stdout=subprocess.PIPE, text=True)
 
 
 FLAGS = {"fast": ["-O"], "checked": ["-O", "-C", "overflow-checks=yes"]}
