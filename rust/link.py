@@ -116,7 +116,9 @@ def archives(folder=None):
     for crate in EXPORTING:
         if not exports(crate):
             continue
-        call(["rt", "staticlib", crate], cwd=ROOT, stdout=subprocess.DEVNULL)
+        done = subprocess.run(["rt", "staticlib", crate], cwd=ROOT, stdout=subprocess.PIPE, stderr=subprocess.STDOUT, text=True)
+        if done.returncode != 0:
+            die(done.stdout + f"rt staticlib {crate} failed")
         where = os.path.join(TARGET, "staticlib")
         if folder is not None:
             os.makedirs(folder, exist_ok=True)
