@@ -1,5 +1,6 @@
 -- Signed numbers.
 pub mod Bound
+pub mod Quotient
 pub mod Parts
 pub mod Ring
 pub mod Rep
