@@ -53,7 +53,7 @@ pub fn comparisons() -> Vec<Comparison> {
         Comparison {
             name: "whole: isqrt_i64",
             numbers: "n",
-            cost: 4,
+            cost: 1,
             fixed: each_root,
             draw: draw_root,
             allowed: |c| c[0] <= ROOT_END,
@@ -62,7 +62,7 @@ pub fn comparisons() -> Vec<Comparison> {
         Comparison {
             name: "whole: div_floor_i64",
             numbers: "a b",
-            cost: 4,
+            cost: 1,
             fixed: each_division,
             draw: draw_division,
             allowed: |c| divides(c[0], c[1]),
@@ -71,7 +71,7 @@ pub fn comparisons() -> Vec<Comparison> {
         Comparison {
             name: "whole: div_ceil_i64",
             numbers: "a b",
-            cost: 4,
+            cost: 1,
             fixed: each_division,
             draw: draw_division,
             allowed: |c| divides(c[0], c[1]),
