@@ -20,7 +20,7 @@ use mir.Val.{SFits, hbits, toZ, ofZ}
 use mir.Facts.{toZ-ofZ, toZ-pos}
 use Rattle.laws.specs.Bound.{Bounded}
 use Rattle.laws.specs.Parts.{P, N, P-neg, N-neg}
-use Rattle.laws.specs.Div.{floorZ, ceilZ}
+use Rattle.laws.specs.Quotient.{floorZ, ceilZ}
 use Rattle.laws.specs.Fit.{of-abs, of-mag, fits-abs, abs+, abs-, abs*}
 
 pub w+ : {A B : ℕ} {a b : ℤ} → Bounded A a → Bounded B b → Bounded (A + B) (a +ℤ b)

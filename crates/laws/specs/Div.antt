@@ -8,20 +8,12 @@ use lib.IntN.{ℤ, pos, negsuc, negℤ, _+ℤ_, _-ℤ_, _*ℤ_, natAbs}
 use lib.Signed.{_≤ℤ_, _<ℤ_, mag, quotZ, remZ, shrZ}
 use mir.Syntax.{Width, w32, w64}
 use mir.Val.{SFits, hbits}
+use Rattle.laws.specs.Quotient.{floorZ, ceilZ}
 use Rattle.laws.specs.Parts.{P, N, zord, le→, lt→, eq→, le←, lt←, eq←, of+, of-, of*, one-zero, P-neg, N-neg}
 use Rattle.laws.specs.Rep.{Rep, v, k, km, _⊕_, _⊖_, _⊗_, ⊝, rep-eq, rep-le, rep-lt, eq-rep, le-rep, lt-rep}
 use lib.Signed.{<ℤ-≤ℤ-trans}
 use Rattle.laws.specs.Order.{*ℤ-cancel<, ≤ℤ-<ℤ-trans, ≤ℤ-antisym}
 use Rattle.laws.specs.Fit.{of-mag, of-abs, fits-abs}
-
--- a / b rounded down; by 0 it is what Rattle never asks
-abbrev pub floorZ : ℤ → ℤ → ℤ
-floorZ a (pos b) = shrZ a b
-floorZ a (negsuc b) = shrZ (negℤ a) (suc b)
-
--- a / b rounded up
-abbrev pub ceilZ : ℤ → ℤ → ℤ
-ceilZ a b = negℤ (floorZ (negℤ a) b)
 
 -- ---- the law of the shift: q * b ≤ a < (q + 1) * b
 shr-lo : (a : ℤ) (b : ℕ) → 0 < b → (shrZ a b *ℤ pos b) ≤ℤ a

@@ -1,5 +1,6 @@
 -- Signed numbers.
 pub mod Bound
+pub mod Quotient
 pub mod Parts
 pub mod Ring
 pub mod Rep
@@ -13,8 +14,15 @@ pub mod Bools
 pub mod Ends
 pub mod EndsLaws
 pub mod Runs
+pub mod Blank
+pub mod Answer
+pub mod Holds
+pub mod RunLaws
+pub mod RunPlaces
 pub mod Rows
 pub mod RowLaws
+pub mod Tab
+pub mod TabLaws
 pub mod Index
 pub mod Fill
 pub mod Every
