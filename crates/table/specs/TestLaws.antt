@@ -1,6 +1,6 @@
 -- Laws: the refusals as a chain of tests, and what the work may rest on once none is left.
 use mathlib.Core.Path.{_≡_, refl, sym, ap, _∙_}
-use mathlib.Core.Bool.{Bool, true, false, not, _||_, cond}
+use mathlib.Core.Bool.{Bool, true, false, not, _||_, cond, or-true}
 use mathlib.Core.List.{List, [], _∷_}
 use Prim.Native.Nat.{ℕ, _+_, _*_, _≤_}
 use native.Mathlib.Omega.{arith}
@@ -82,23 +82,23 @@ module _ (target canvas : List Float) (w h : ℕ) (table : List Float) where
   sizesRefusal = lowest (sizeIf (badSize w h) ∷ lengthIf (badLengths w h (length target) (length canvas) (length table)) ∷ [])
 
   -- a refusal for the sizes stays one, whatever the pixels are
-  sizes-stay : (a b c : Bool) (no : ℕ) → no ≡ cond a 1 (cond b 2 0) → (no ≡ 0 → ⊥) → no ≡ cond a 1 (cond b 2 (cond c 7 0))
-  sizes-stay true b c no e n = e
-  sizes-stay false true c no e n = e
-  sizes-stay false false c no e n = absurd (n e)
+  sizes-stay : (a b c : Bool) (k : ℕ) → k ≡ cond a 1 (cond b 2 0) → (k ≡ 0 → ⊥) → k ≡ cond a 1 (cond b 2 (cond c 7 0))
+  sizes-stay true b c k e n = e
+  sizes-stay false true c k e n = e
+  sizes-stay false false c k e n = absurd (n e)
 
-  pub build-refused : (no : ℕ) → no ≡ sizesRefusal → (no ≡ 0 → ⊥) → BuildSays target canvas w h table no table
-  build-refused no e n = record {
+  pub build-refused : (k : ℕ) → k ≡ sizesRefusal → (k ≡ 0 → ⊥) → BuildSays target canvas w h table k table
+  build-refused k e n = record {
     answer =
-        sizes-stay (badSize w h) (badLengths w h (length target) (length canvas) (length table)) (not (allWithin target) || not (allWithin canvas)) no (e ∙ sizes-after _ _) n
+        sizes-stay (badSize w h) (badLengths w h (length target) (length canvas) (length table)) (not (allWithin target) || not (allWithin canvas)) k (e ∙ sizes-after _ _) n
         ∙ sym (build-after target canvas w h table);
     done = λ z. absurd (n z);
     refused = λ m. refl;
   }
 
-  pub update-refused : (ymin ymax : ℤ) (no : ℕ) → no ≡ sizesRefusal → (no ≡ 0 → ⊥) → UpdateCanvasRowsSays target canvas w h table ymin ymax no table
+  pub update-refused : (ymin ymax : ℤ) (k : ℕ) → k ≡ sizesRefusal → (k ≡ 0 → ⊥) → UpdateCanvasRowsSays target canvas w h table ymin ymax k table
   unfolding updateRefusal
-  update-refused ymin ymax no e n = record { answer = e; done = λ z. absurd (n z); refused = λ m. refl }
+  update-refused ymin ymax k e n = record { answer = e; done = λ z. absurd (n z); refused = λ m. refl }
 
   pub update-done : (ymin ymax : ℤ) (new : List Float) → sizesRefusal ≡ 0 → Updated w h target canvas ymin ymax table new → UpdateCanvasRowsSays target canvas w h table ymin ymax 0 new
   unfolding updateRefusal
@@ -112,6 +112,12 @@ module _ (target canvas : List Float) (w h : ℕ) (table : List Float) where
       build-after target canvas w h table
       ∙ ap (λ (a : Bool). cond a 1 (cond (badLengths w h (length target) (length canvas) (length table)) 2 (cond (not (allWithin target) || not (allWithin canvas)) 7 0))) (p .0)
       ∙ ap (λ (b : Bool). cond b 2 (cond (not (allWithin target) || not (allWithin canvas)) 7 0)) (p .1)
+
+  pub bad-target : (b : Bool) → b ≡ allWithin target → not b ≡ true → not (allWithin target) || not (allWithin canvas) ≡ true
+  bad-target b e f = ap (λ (x : Bool). not x || not (allWithin canvas)) (sym e) ∙ ap (λ (x : Bool). x || not (allWithin canvas)) f
+
+  pub bad-canvas : (b : Bool) → b ≡ allWithin canvas → not b ≡ true → not (allWithin target) || not (allWithin canvas) ≡ true
+  bad-canvas b e f = ap (λ (x : Bool). not (allWithin target) || not x) (sym e) ∙ ap (λ (x : Bool). not (allWithin target) || x) f ∙ or-true (not (allWithin target))
 
   pub build-pixel : sizesRefusal ≡ 0 → not (allWithin target) || not (allWithin canvas) ≡ true → BuildSays target canvas w h table 7 table
   build-pixel e f = record {

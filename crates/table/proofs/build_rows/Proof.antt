@@ -51,7 +51,7 @@ loop-again c =
       r .ensures
       ∙ ap (λ m. putRow ((a .w + 1) * 15) (l .y) (wholeAt (a .w) (a .target .now) (a .canvas .now) (l .y) (cut ((a .w + 1) * 15) (l .y) m)) m) (l .inv .2)
       ∙ putRows-more ((a .w + 1) * 15) (wholeAt (a .w) (a .target .now) (a .canvas .now)) 0 (l .y) (a .table .now) (l .inv .0),
-      r .kept .3 ∙ l .inv .3,
+      r .kept .1 .1 .1 .0 ∙ l .inv .3,
     )
 
 -- src/lib.rt:96:1

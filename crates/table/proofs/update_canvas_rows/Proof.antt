@@ -1,3 +1,8 @@
+use mir.Facts.{toZ-ofZ}
+use mathlib.Core.Path.{sym, _∙_, subst}
+use Rattle.table.specs.Table.{Updated, updateRefusal}
+use Rattle.table.specs.FillLaws.{updated}
+use Rattle.table.specs.TestLaws.{update-refused, update-done, sizes}
 use native.Mathlib.Omega.{arith}
 use borrow.Author.Needs.{needs}
 use Rattle.table.proofs.update_canvas_rows.Statement.{statement}
@@ -15,7 +20,9 @@ refused-requires c κs = search needs
 
 -- src/lib.rt:50:9
 returns : tie.Need-returns
-returns c = ?
+returns c = 
+    let a = c .before .before .before .before .before .args in
+    update-refused (a .target .now) (a .canvas .now) (a .w) (a .h) (a .table .now) (a .ymin) (a .ymax) _ (c .before .refused .ensures) (c .if1 .taken)
 
 -- src/lib.rt:52:9
 end-row-requires : tie.Need-end-row-requires
@@ -27,7 +34,10 @@ first-row-requires c κs = search needs
 
 -- src/lib.rt:54:5
 update-rows-requires : tie.Need-update-rows-requires
-update-rows-requires c κs = ?
+unfolding updateRefusal
+update-rows-requires c κs = 
+    let a = c .before .before .before .before .before .before .before .before .args in
+    (sizes (a .target .now) (a .canvas .now) (a .w) (a .h) (a .table .now) (sym (c .before .before .before .before .refused .ensures) ∙ c .before .before .before .if1 .left), c .before .first-row .ensures .0, c .before .before .end-row .ensures .0)
 
 -- src/lib.rt:37:1
 same-length : tie.Need-same-length
@@ -35,7 +45,17 @@ same-length c = search needs
 
 -- src/lib.rt:37:1
 returns-2 : tie.Need-returns-2
-returns-2 c = ?
+unfolding updateRefusal
+returns-2 c = 
+    let st = c .before .before .before .before .before .before .before .before .before .before .before in
+    let a = st .args in
+    let e = sym (c .before .before .before .before .before .before .before .refused .ensures) ∙ c .before .before .before .before .before .before .if1 .left in
+    let hi = c .before .before .before .before .before .end-row .ensures in
+    let lo = c .before .before .before .before .first-row .ensures in
+    update-done (a .target .now) (a .canvas .now) (a .w) (a .h) (a .table .now) (a .ymin) (a .ymax) _ e
+    (subst (Updated (a .w) (a .h) (a .target .now) (a .canvas .now) (a .ymin) (a .ymax) (a .table .now)) (sym (c .before .before .update-rows .ensures))
+    (updated (a .w) (a .h) (a .target .now) (a .canvas .now) (a .table .now) (sizes (a .target .now) (a .canvas .now) (a .w) (a .h) (a .table .now) e .places) _ _ (lo .0) (hi .0) (a .ymin) (a .ymax)
+    (λ y l. rw (toZ-ofZ, st .fits .ymin) at (lo .1 y l)) (λ y l. rw (toZ-ofZ, st .fits .ymax) at (hi .1 y l))))
 
 pub update-canvas-rows-spec : {M : Type 1} → statement M
 update-canvas-rows-spec =
