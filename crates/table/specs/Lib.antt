@@ -7,5 +7,6 @@ pub mod LayoutLaws
 pub mod RangeLaws
 pub mod LentLaws
 pub mod FillLaws
+pub mod ReadLaws
 pub mod TestLaws
 pub mod TableLaws

@@ -2,17 +2,30 @@
 ghost use mathlib.Core.Path.{_≡_};
 ghost use mathlib.Core.Bool.{_||_};
 ghost use mathlib.Core.List.{[], _∷_};
-ghost use Prim.Native.Nat.{ℕ, _+_, _*_, _≤_, _<_, _^_};
+ghost use Prim.Native.Nat.{ℕ, _+_, _-_, _*_, _≤_, _<_, _^_};
 ghost use lib.Dec.{T, leb, ltb};
-ghost use lib.ListN.{length};
+ghost use lib.ListN.{length, getD};
+ghost use lib.Ieee.{nan};
 ghost use lib.IntN.{pos};
 ghost use lib.Signed.{leZ, ltZ};
 ghost use Rattle.laws.specs.Rows.{cut, putRow, putRows};
 ghost use Rattle.float.specs.Within.{allNumbers};
 ghost use Rattle.refusal.specs.Refusals.{lowest, sizeIf, lengthIf, badSize};
+ghost use Rattle.sums.specs.Sums.{three};
 ghost use Rattle.table.specs.Table.{badLengths, BuildSays, UpdateCanvasRowsSays, AddSpanSays, ReadPlaceSays};
 ghost use Rattle.table.specs.Fills.{Sizes, wholeAt, canvasAt};
 use sums::ShapeSums;
+
+// The series' places among the fifteen.
+const T: usize = 0;
+
+const T2: usize = 3;
+
+const C: usize = 6;
+
+const C2: usize = 9;
+
+const TC: usize = 12;
 
 // The table of a target and a canvas within 0..1; or a refusal, and then no number of `table` has changed.
 pub fn build(target: &[f32], canvas: &[f32], w: usize, h: usize, table: &mut [f64]) -> u8
@@ -53,6 +66,51 @@ pub fn update_canvas_rows(
     let lo = first_row(ymin, hi);
     update_rows(target, canvas, w, h, table, lo, hi);
     0
+}
+
+// Pixels left <= x < right of row y, added to the running sums.
+pub fn add_span(
+    table: &[f64],
+    w: usize,
+    y: usize,
+    left: usize,
+    right: usize,
+    s: ShapeSums,
+) -> ShapeSums
+    requires { ⌜ (w ≤ 256) × (left ≤ right) × (right ≤ w) × (y * ((w + 1) * 15) + (w + 1) * 15 ≤ length (now table)) × (s .count + (right - left) < 2 ^ 32) ⌝ }
+    ensures { λ r. ⌜ AddSpanSays (now (table .entry)) w y left right s r ⌝ }
+{
+    let hi = read_place(table, w, y, right);
+    let lo = read_place(table, w, y, left);
+    s.plus(hi.minus(lo))
+}
+
+// Place x of row y: the sums of the x pixels before it.
+pub fn read_place(table: &[f64], w: usize, y: usize, x: usize) -> ShapeSums
+    requires { ⌜ (w ≤ 256) × (x ≤ w) × (y * ((w + 1) * 15) + (w + 1) * 15 ≤ length (now table)) ⌝ }
+    ensures { λ r. ⌜ ReadPlaceSays (now (table .entry)) w y x r ⌝ }
+{
+    let at = (y * (w + 1) + x) * 15;
+    let s_t = three_at(table, at + T);
+    let s_c = three_at(table, at + C);
+    let s_t2 = three_at(table, at + T2);
+    let s_c2 = three_at(table, at + C2);
+    let s_tc = three_at(table, at + TC);
+    ShapeSums {
+        s_t,
+        s_c,
+        s_t2,
+        s_c2,
+        s_tc,
+        count: x as u32,
+    }
+}
+
+fn three_at(table: &[f64], at: usize) -> [f64; 3]
+    requires { ⌜ at + 3 ≤ length (now table) ⌝ }
+    ensures { λ r. ⌜ r ≡ three (getD (now (table .entry)) at nan) (getD (now (table .entry)) (at + 1) nan) (getD (now (table .entry)) (at + 2) nan) ⌝ }
+{
+    [table[at], table[at + 1], table[at + 2]]
 }
 
 // The tests on numbers alone: 0, or the number of the refusal.
@@ -131,7 +189,12 @@ fn build_row(target: &[f32], canvas: &[f32], w: usize, table: &mut [f64], y: usi
 {
     let n = (w + 1) * 15;
     let a = y * n;
-    rows::rebuild_row(&mut table[a..a + n], row_of(target, y, w * 3), row_of(canvas, y, w * 3), w);
+    rows::rebuild_row(
+        &mut table[a..a + n],
+        row_of(target, y, w * 3),
+        row_of(canvas, y, w * 3),
+        w,
+    );
 }
 
 // The same for the canvas's sums. Rows without a NaN take the quicker routine.

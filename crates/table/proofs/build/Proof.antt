@@ -3,62 +3,48 @@ use borrow.Author.Tests.{not-false}
 use Rattle.table.specs.Table.{Table, updateRefusal}
 use Rattle.table.specs.FillLaws.{built}
 use Rattle.table.specs.TestLaws.{build-refused, bad-target, bad-canvas, build-pixel, build-done, built-numbers, sizes}
-use native.Mathlib.Omega.{arith}
 use borrow.Author.Needs.{needs}
 use Rattle.table.proofs.build.Statement.{statement}
 use Rattle.table.proofs.build.Tie as tie
-use Rattle.table.proofs.build.Reads as reads
-use Rattle.table.proofs.build.Lts as lts
-use Rattle.float.proofs.all_within.Reads as all-within-reads
-use Rattle.table.proofs.build_rows.Reads as build-rows-reads
-use Rattle.table.proofs.refused.Reads as refused-reads
 
--- src/lib.rt:21:9
 refused-requires : tie.Need-refused-requires
 refused-requires c κs = search needs
 
--- src/lib.rt:23:9
 returns : tie.Need-returns
-returns c = 
+returns c =
     let a = c .before .before .before .before .before .args in
     build-refused (a .target .now) (a .canvas .now) (a .w) (a .h) (a .table .now) _ (c .before .refused .ensures) (c .if1 .taken)
 
--- src/lib.rt:25:9
 all-within-requires : tie.Need-all-within-requires
 all-within-requires c κs = search needs
 
--- src/lib.rt:26:9
 returns-2 : tie.Need-returns-2
-returns-2 c = 
+returns-2 c =
     let a = c .before .before .before .before .before .before .before .args in
     build-pixel (a .target .now) (a .canvas .now) (a .w) (a .h) (a .table .now) (sym (c .before .before .before .refused .ensures) ∙ c .before .before .if1 .left) (bad-target (a .target .now) (a .canvas .now) (a .w) (a .h) (a .table .now) _ (c .before .all-within .ensures) (c .if2 .taken))
 
--- src/lib.rt:28:9
 all-within-requires-2 : tie.Need-all-within-requires-2
 all-within-requires-2 c κs = search needs
 
--- src/lib.rt:29:9
 returns-3 : tie.Need-returns-3
-returns-3 c = 
+returns-3 c =
     let a = c .before .before .before .before .before .before .before .before .before .args in
     build-pixel (a .target .now) (a .canvas .now) (a .w) (a .h) (a .table .now) (sym (c .before .before .before .before .before .refused .ensures) ∙ c .before .before .before .before .if1 .left) (bad-canvas (a .target .now) (a .canvas .now) (a .w) (a .h) (a .table .now) _ (c .before .all-within2 .ensures) (c .if3 .taken))
 
--- src/lib.rt:31:5
 build-rows-requires : tie.Need-build-rows-requires
 unfolding updateRefusal
-build-rows-requires c κs = 
-    let a = c .before .before .before .before .before .before .before .before .before .before .args in
-    (sizes (a .target .now) (a .canvas .now) (a .w) (a .h) (a .table .now) (sym (c .before .before .before .before .before .before .refused .ensures) ∙ c .before .before .before .before .before .if1 .left),
-    built-numbers (a .target .now) (a .canvas .now) (a .w) (a .h) (a .table .now) (sym (c .before .before .before .before .all-within .ensures) ∙ not-false _ (c .before .before .before .if2 .left)) (sym (c .before .before .all-within2 .ensures) ∙ not-false _ (c .before .if3 .left)))
+build-rows-requires c κs =
+    let a = c .before .before .before .before .before .before .before .before .before .before .args in (
+      sizes (a .target .now) (a .canvas .now) (a .w) (a .h) (a .table .now) (sym (c .before .before .before .before .before .before .refused .ensures) ∙ c .before .before .before .before .before .if1 .left),
+      built-numbers (a .target .now) (a .canvas .now) (a .w) (a .h) (a .table .now) (sym (c .before .before .before .before .all-within .ensures) ∙ not-false _ (c .before .before .before .if2 .left)) (sym (c .before .before .all-within2 .ensures) ∙ not-false _ (c .before .if3 .left)),
+    )
 
--- src/lib.rt:18:1
 same-length : tie.Need-same-length
 same-length c = search needs
 
--- src/lib.rt:18:1
 returns-4 : tie.Need-returns-4
 unfolding updateRefusal
-returns-4 c = 
+returns-4 c =
     let a = c .before .before .before .before .before .before .before .before .before .before .before .before .before .args in
     let e = sym (c .before .before .before .before .before .before .before .before .before .refused .ensures) ∙ c .before .before .before .before .before .before .before .before .if1 .left in
     build-done (a .target .now) (a .canvas .now) (a .w) (a .h) (a .table .now) _ e (sym (c .before .before .before .before .before .before .before .all-within .ensures) ∙ not-false _ (c .before .before .before .before .before .before .if2 .left)) (sym (c .before .before .before .before .before .all-within2 .ensures) ∙ not-false _ (c .before .before .before .before .if3 .left))

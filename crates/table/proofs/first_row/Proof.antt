@@ -1,25 +1,18 @@
 use mir.Facts.{toZ-ofZ}
 use Rattle.table.specs.RangeLaws.{casts, first-negative, first-inside, first-past}
-use borrow.Author.Needs.{needs}
 use native.Mathlib.Omega.{arith}
 use Rattle.table.proofs.first_row.Statement.{statement}
 use Rattle.table.proofs.first_row.Tie as tie
-use Rattle.table.proofs.first_row.Reads as reads
-use Rattle.table.proofs.first_row.Lts as lts
 
--- src/lib.rt:90:9
 returns : tie.Need-returns
 returns c = let st = c .before in let e = rw (toZ-ofZ, st .fits .ymin) at (c .if1 .taken) in (omega arith, λ y l. first-negative (st .args .ymin) y e)
 
--- src/lib.rt:92:17
 cast-first : tie.Need-cast-first
 cast-first c = let st = c .before in rw (toZ-ofZ, st .fits .ymin) (casts (st .args .ymin) (st .fits .ymin) (rw (toZ-ofZ, st .fits .ymin) at (c .if1 .left)))
 
--- src/lib.rt:86:1
 returns-2 : tie.Need-returns-2
 returns-2 c = let st = c .before .before in let e = rw (toZ-ofZ, st .fits .ymin) at (c .before .if1 .left) in (omega arith, λ y l. rw (toZ-ofZ, st .fits .ymin) (first-inside (st .args .ymin) y e))
 
--- src/lib.rt:86:1
 returns-3 : tie.Need-returns-3
 returns-3 c = let st = c .before .before in let e = rw (toZ-ofZ, st .fits .ymin) at (c .before .if1 .left) in (omega arith, λ y l. first-past (st .args .ymin) (st .args .hi) y e (rw (toZ-ofZ, st .fits .ymin) at (c .if2 .left)) l)
 

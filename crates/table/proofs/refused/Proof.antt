@@ -1,49 +1,34 @@
 use mathlib.Core.Path.{sym, _∙_}
 use Rattle.refusal.specs.RefusalLaws.{sized}
 use Rattle.table.specs.TestLaws.{sizes-after}
-use native.Mathlib.Omega.{arith}
 use borrow.Author.Needs.{needs}
 use Rattle.table.proofs.refused.Statement.{statement}
 use Rattle.table.proofs.refused.Tie as tie
-use Rattle.table.proofs.refused.Reads as reads
-use Rattle.table.proofs.refused.Lts as lts
-use Rattle.refusal.proofs.bad_picture.Reads as bad-picture-reads
-use Rattle.refusal.proofs.bad_size.Reads as bad-size-reads
-use Rattle.refusal.proofs.bad_table.Reads as bad-table-reads
 
--- src/lib.rt:62:8
 bad-size-requires : tie.Need-bad-size-requires
 bad-size-requires c κs = search needs
 
--- src/lib.rt:63:9
 returns : tie.Need-returns
 returns c = simp (sizes-after, sym (c .before .bad-size .ensures) ∙ c .if1 .taken)
 
--- src/lib.rt:65:8
 bad-picture-requires : tie.Need-bad-picture-requires
 bad-picture-requires c κs = let s = sized _ _ (sym (c .before .bad-size .ensures) ∙ c .if1 .left) in (s .w-high, s .h-high)
 
--- src/lib.rt:66:9
 returns-2 : tie.Need-returns-2
 returns-2 c = simp (sizes-after, sym (c .before .before .before .bad-size .ensures) ∙ c .before .before .if1 .left, sym (c .before .bad-picture .ensures) ∙ c .if2 .taken)
 
--- src/lib.rt:68:8
 bad-picture-requires-2 : tie.Need-bad-picture-requires-2
 bad-picture-requires-2 c κs = let s = sized _ _ (sym (c .before .before .before .bad-size .ensures) ∙ c .before .before .if1 .left) in (s .w-high, s .h-high)
 
--- src/lib.rt:69:9
 returns-3 : tie.Need-returns-3
 returns-3 c = simp (sizes-after, sym (c .before .before .before .before .before .bad-size .ensures) ∙ c .before .before .before .before .if1 .left, sym (c .before .before .before .bad-picture .ensures) ∙ c .before .before .if2 .left, sym (c .before .bad-picture2 .ensures) ∙ c .if3 .taken)
 
--- src/lib.rt:71:8
 bad-table-requires : tie.Need-bad-table-requires
 bad-table-requires c κs = let s = sized _ _ (sym (c .before .before .before .before .before .bad-size .ensures) ∙ c .before .before .before .before .if1 .left) in (s .w-high, s .h-high)
 
--- src/lib.rt:72:9
 returns-4 : tie.Need-returns-4
 returns-4 c = simp (sizes-after, sym (c .before .before .before .before .before .before .before .bad-size .ensures) ∙ c .before .before .before .before .before .before .if1 .left, sym (c .before .before .before .before .before .bad-picture .ensures) ∙ c .before .before .before .before .if2 .left, sym (c .before .before .before .bad-picture2 .ensures) ∙ c .before .before .if3 .left, sym (c .before .bad-table .ensures) ∙ c .if4 .taken)
 
--- src/lib.rt:59:1
 returns-5 : tie.Need-returns-5
 returns-5 c = simp (sizes-after, sym (c .before .before .before .before .before .before .before .bad-size .ensures) ∙ c .before .before .before .before .before .before .if1 .left, sym (c .before .before .before .before .before .bad-picture .ensures) ∙ c .before .before .before .before .if2 .left, sym (c .before .before .before .bad-picture2 .ensures) ∙ c .before .before .if3 .left, sym (c .before .bad-table .ensures) ∙ c .if4 .left)
 

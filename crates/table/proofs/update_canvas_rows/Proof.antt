@@ -3,50 +3,36 @@ use mathlib.Core.Path.{sym, _∙_, subst}
 use Rattle.table.specs.Table.{Updated, updateRefusal}
 use Rattle.table.specs.FillLaws.{updated}
 use Rattle.table.specs.TestLaws.{update-refused, update-done, sizes}
-use native.Mathlib.Omega.{arith}
 use borrow.Author.Needs.{needs}
 use Rattle.table.proofs.update_canvas_rows.Statement.{statement}
 use Rattle.table.proofs.update_canvas_rows.Tie as tie
-use Rattle.table.proofs.update_canvas_rows.Reads as reads
-use Rattle.table.proofs.update_canvas_rows.Lts as lts
-use Rattle.table.proofs.end_row.Reads as end-row-reads
-use Rattle.table.proofs.first_row.Reads as first-row-reads
-use Rattle.table.proofs.refused.Reads as refused-reads
-use Rattle.table.proofs.update_rows.Reads as update-rows-reads
 
--- src/lib.rt:48:9
 refused-requires : tie.Need-refused-requires
 refused-requires c κs = search needs
 
--- src/lib.rt:50:9
 returns : tie.Need-returns
-returns c = 
+returns c =
     let a = c .before .before .before .before .before .args in
     update-refused (a .target .now) (a .canvas .now) (a .w) (a .h) (a .table .now) (a .ymin) (a .ymax) _ (c .before .refused .ensures) (c .if1 .taken)
 
--- src/lib.rt:52:9
 end-row-requires : tie.Need-end-row-requires
 end-row-requires c κs = search needs
 
--- src/lib.rt:53:9
 first-row-requires : tie.Need-first-row-requires
 first-row-requires c κs = search needs
 
--- src/lib.rt:54:5
 update-rows-requires : tie.Need-update-rows-requires
 unfolding updateRefusal
-update-rows-requires c κs = 
+update-rows-requires c κs =
     let a = c .before .before .before .before .before .before .before .before .args in
     (sizes (a .target .now) (a .canvas .now) (a .w) (a .h) (a .table .now) (sym (c .before .before .before .before .refused .ensures) ∙ c .before .before .before .if1 .left), c .before .first-row .ensures .0, c .before .before .end-row .ensures .0)
 
--- src/lib.rt:37:1
 same-length : tie.Need-same-length
 same-length c = search needs
 
--- src/lib.rt:37:1
 returns-2 : tie.Need-returns-2
 unfolding updateRefusal
-returns-2 c = 
+returns-2 c =
     let st = c .before .before .before .before .before .before .before .before .before .before .before in
     let a = st .args in
     let e = sym (c .before .before .before .before .before .before .before .refused .ensures) ∙ c .before .before .before .before .before .before .if1 .left in

@@ -1,5 +1,5 @@
 use mathlib.Core.Path.{_≡_, sym, ap, _∙_}
-use Prim.Native.Nat.{ℕ, _+_, _-_, _*_, _≤_, _<_}
+use Prim.Native.Nat.{_+_, _-_, _*_, _≤_, _<_}
 use lib.ListN.{length}
 use Rattle.laws.specs.Rows.{cut, putRow, putRows}
 use Rattle.laws.specs.RowLaws.{putRows-none, putRows-more, row-in}
@@ -8,9 +8,6 @@ use borrow.Author.Needs.{needs}
 use native.Mathlib.Omega.{arith}
 use Rattle.table.proofs.update_rows.Statement.{statement}
 use Rattle.table.proofs.update_rows.Tie as tie
-use Rattle.table.proofs.update_rows.Reads as reads
-use Rattle.table.proofs.update_rows.Lts as lts
-use Rattle.table.proofs.update_row.Reads as update-row-reads
 
 abbrev Inv-loop : tie.InvT-loop
 Inv-loop target canvas w h table₀ lo hi y₀ table y =
@@ -19,48 +16,41 @@ Inv-loop target canvas w h table₀ lo hi y₀ table y =
 abbrev μ-loop : tie.MeasureT-loop
 μ-loop target canvas w h table₀ lo hi y₀ table y = hi - y
 
--- src/lib.rt:118:5
 loop-holds : tie.Need-loop-holds Inv-loop μ-loop
 loop-holds c = (omega arith, omega arith, sym (putRows-none _ _ _ _), c .before .before .before .pre .0 .places)
 
--- src/lib.rt:119:9
 update-row-requires : tie.Need-update-row-requires Inv-loop μ-loop
-update-row-requires c κs = 
+update-row-requires c κs =
     let st = c .before .before .before .before .before .before in
     let a = st .args in
     let l = c .before .before .loop in
     let g : l .y < a .h = omega arith in
     (st .pre .0 .narrow, row-in (a .w * 3) (l .y) (a .h) (a .target .now) (st .pre .0 .targets) g, row-in (a .w * 3) (l .y) (a .h) (a .canvas .now) (st .pre .0 .canvases) g, row-in ((a .w + 1) * 15) (l .y) (a .h) (l .table) (l .inv .3) g)
 
--- src/lib.rt:118:9
 add-y : tie.Need-add-y Inv-loop μ-loop
 add-y c = search needs
 
--- src/lib.rt:118:5
 loop-less : tie.Need-loop-less Inv-loop μ-loop
 loop-less c = search needs
 
--- src/lib.rt:118:5
 loop-again : tie.Need-loop-again Inv-loop μ-loop
-loop-again c = 
+loop-again c =
     let a = c .before .before .before .before .before .before .before .before .before .args in
     let l = c .before .before .before .before .before .loop in
     let r = c .before .before .update-row in (
       omega arith,
       omega arith,
       r .ensures
-      ∙ ap (λ m. putRow ((a .w + 1) * 15) (l .y) (canvasAt (a .w) (a .target .now) (a .canvas .now) (l .y) (cut ((a .w + 1) * 15) (l .y) m)) m) (l .inv .2)
-      ∙ putRows-more ((a .w + 1) * 15) (canvasAt (a .w) (a .target .now) (a .canvas .now)) (a .lo) (l .y) (a .table .now) (l .inv .0),
+          ∙ ap (λ m. putRow ((a .w + 1) * 15) (l .y) (canvasAt (a .w) (a .target .now) (a .canvas .now) (l .y) (cut ((a .w + 1) * 15) (l .y) m)) m) (l .inv .2)
+          ∙ putRows-more ((a .w + 1) * 15) (canvasAt (a .w) (a .target .now) (a .canvas .now)) (a .lo) (l .y) (a .table .now) (l .inv .0),
       r .kept .1 .1 .1 .0 ∙ l .inv .3,
     )
 
--- src/lib.rt:106:1
 same-length : tie.Need-same-length Inv-loop μ-loop
 same-length c = search needs
 
--- src/lib.rt:106:1
 returns : tie.Need-returns Inv-loop μ-loop
-returns c = 
+returns c =
     let e : c .before .loop .y ≡ c .before .before .before .before .before .args .hi = omega arith in
     rw e at (c .before .loop .inv .2)
 
