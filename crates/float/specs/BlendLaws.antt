@@ -1,23 +1,24 @@
--- Laws: a * x + (1 - a) * y, each operation rounded to binary32, is from 0 to 1 where a, x and y are.
+-- Laws: document 01's paint, (1 - a) * old + a * colour with each operation rounded to f32, is within 0..1 where a, old and colour are.
 use mathlib.Core.Path.{_≡_, refl, sym, ap, _∙_, subst}
-use Prim.Native.Nat.{ℕ, zero, suc, _+_, _-_, _*_, _/_, _%_, _^_, _≤_, _<_, zero-le, compare, Ordering, Ordering·lt, Ordering·eq, Ordering·gt}
-use native.Mathlib.Nat.{le-add-left, add-le-add, div-lt-iff-lt-mul, mul-lt-mul-of-pos-right, lt-of-not-le, lt-irrefl, lt-of-lt-of-le, le-refl, le-trans, le-of-eq, lt-of-le-of-lt, le-of-suc-le-suc, mul-pos, mul-le-mul, mul-le-mul-left, mul-le-mul-right, le-of-mul-le-mul-right, eq-of-mul-eq-mul-right, mul-one, one-mul, zero-mul, mul-zero, mul-comm, mul-assoc, mul-right-comm, suc-mul, add-mul, div-add-mod', mul-div-cancel, sub-le}
+use Prim.Native.Nat.{ℕ, suc, _+_, _-_, _*_, _/_, _%_, _^_, _≤_, _<_, zero-le, compare, Ordering, Ordering·lt, Ordering·eq, Ordering·gt}
+use native.Mathlib.Nat.{add-comm, le-add-left, add-le-add, div-lt-iff-lt-mul, mul-lt-mul-of-pos-right, le-refl, le-trans, le-of-eq, lt-of-le-of-lt, mul-pos, mul-le-mul, mul-le-mul-left, mul-le-mul-right, le-of-mul-le-mul-right, eq-of-mul-eq-mul-right, one-mul, zero-mul, mul-comm, mul-assoc, mul-right-comm, suc-mul, add-mul, div-add-mod', sub-le}
 use native.Mathlib.Omega.{arith}
-use mathlib.Core.Bool.{Bool, true, false, not, _&&_, cond, true≢false}
-use lib.IntN.{ℤ, pos, negsuc}
-use lib.Dec.{T, leb, ltb, eqb, leb→le, ltb→lt, lit<, lit≤, not-T}
-use lib.Pow.{pow-lt, pow-add, pow-pos, pow-mono}
-use lib.Ieee.{Float, nan, inf, fin, Format, binary32, up, down, unlike, size, nearest, round, add, sub, mul, sum, lt, eq, le, fits}
-use lib.Ieee.Digits.{back, size-le}
-use lib.Ieee.Fits.{and-l, and-r, down-pos, sub-fits}
+use mathlib.Core.Bool.{Bool, true, false, cond, true≢false}
+use lib.IntN.{pos}
+use lib.Dec.{T, ltb, ltb→lt, lit<, not-T}
+use lib.Pow.{pow-pos, pow-mono}
+use lib.Ieee.{Float, nan, inf, fin, binary32, up, down, unlike, size, nearest, round, add, sub, mul, sum, lt, eq, le, fits}
+use lib.Ieee.Digits.{size-le}
+use lib.Ieee.Fits.{down-pos, sub-fits}
 use lib.Ieee.Bits.{is-false}
 use lib.Ieee.Exact.{HasValue, round-exact}
 use lib.Ieee.Nearest.{closest}
 use lib.Ieee.Order.{round-mono, kept, drop}
 use lib.Ieee.Scale.{round-same, grid, round-val}
 use lib.Ieee.Positive.{num, den, den-pos, value→cross}
-use Rattle.float.specs.Within.{nought, one, within}
+use Rattle.float.specs.Within.{one, within}
 use Rattle.float.specs.Rounding.{Cmp, cmp}
+use Rattle.float.specs.Held.{placed}
 use Rattle.float.specs.WithinLaws.{Says, says, Small, or-le, round-within, sub-within, minus-nought, Upto, add-upto, nothing}
 
 abbrev U : ℕ
@@ -34,34 +35,11 @@ half-up a b p = go (a / b) (a % b) (compare (a % b * 2) b) (cmp (a % b * 2) b) (
         omega (arith, suc-mul w b)
     go w r Ordering·gt c e = omega (arith, suc-mul w b)
 
--- ---- a value of binary32 is a whole number q * 2 ^ j of units of 2 ^ -149, with q of 24 digits
-pow-back : (a l : ℕ) → 2 ^ a ≤ 2 ^ l → a ≤ l
-pow-back a l h = le-of-suc-le-suc (lt-of-not-le (λ (g : suc l ≤ a). lt-irrefl (2 ^ l) (lt-of-lt-of-le (pow-lt g) h)))
-
-abbrev Units : Float → ℕ → ℕ → Type 0
-Units x q j = (q < 16777216) × (num x * U ≡ q * 2 ^ j * den x)
-
-pub placed : (m : ℕ) (e : ℤ) → m < 16777216 → down e ≤ U → (q : ℕ) × (j : ℕ) × (q < 16777216) × (m * up e * U ≡ q * 2 ^ j * down e)
-placed m (pos k) b h = (m, k + 149, b, mul-assoc m (2 ^ k) U ∙ ap (λ (z : ℕ). m * z) (sym (pow-add 2 k 149)) ∙ sym (mul-one (m * 2 ^ (k + 149))))
-placed m (negsuc k) b h =
-    let l : suc k ≤ 149 = pow-back (suc k) 149 h in (
-      m,
-      149 - suc k,
-      b,
-      ap (λ (z : ℕ). z * U) (mul-one m) ∙ ap (λ (z : ℕ). m * z) (ap (λ (z : ℕ). 2 ^ z) (sym (back 149 (suc k) l)) ∙ pow-add 2 (149 - suc k) (suc k)) ∙ sym (mul-assoc m (2 ^ (149 - suc k)) (2 ^ suc k)),
-    )
-
+-- ---- a value of binary32 in units of 2 ^ -149
 unit-of : (x : Float) → T (fits binary32 x) → Says x → (q : ℕ) × (j : ℕ) × (q < 16777216) × (num x * U ≡ q * 2 ^ j * den x)
-unfolding fits
 unit-of nan h p = absurd p
 unit-of (inf s) h p = absurd p
-unit-of (fin s zero e) h p = (0, 0, lit< tt, ap (λ (z : ℕ). z * U) (zero-mul (up e)) ∙ sym (zero-mul (down e)))
-unit-of (fin s (suc m) e) h p =
-    let A = eqb (suc m % 2) 1 in
-    let B = ltb (suc m) 16777216 in
-    let C = leb (down e) U in
-    let D = ltb (suc m * up e) (2 ^ 128 * down e) in
-    placed (suc m) e (ltb→lt (suc m) 16777216 (and-r A B (and-l (A && B) C (and-l (A && B && C) D h)))) (leb→le (down e) U (and-r (A && B) C (and-l (A && B && C) D h)))
+unit-of (fin s m e) h p = let i = placed binary32 s m e h in (i .q, i .j, i .few, i .same)
 
 -- ---- a value that is at most another
 le-small : (r top : Float) (a u : ℕ) → 0 < u → Says r → T (le r top) → HasValue top false a u → Small r a u
@@ -170,9 +148,11 @@ minus-one : Upto one (fin true 0 (pos 0))
 unfolding le lt eq
 minus-one = tt
 
-pub blend-within : (a x y : Float) → T (fits binary32 a) → T (within a) → T (within x) → T (within y) → T (within (add binary32 (mul binary32 a x) (mul binary32 (sub binary32 one a) y)))
+-- document 01's paint: m * old + a * colour, m = 1 - a
+pub paint-within : (a old colour : Float) → T (fits binary32 a) → T (within a) → T (within old) → T (within colour)
+    → T (within (add binary32 (mul binary32 (sub binary32 one a) old) (mul binary32 a colour)))
 unfolding within
-blend-within a x y F ha hx hy =
+paint-within a old colour F ha ho hc =
     let p = says a ha in
     let i = unit-of a F p in
     let A = i .0 * 2 ^ i .1 in
@@ -185,7 +165,8 @@ blend-within a x y F ha hx hy =
     let v : HasValue m false G U =
     subst (λ (w : Float). HasValue w false G U) (sym (sub-is a p)) (round-val binary32 (den a - num a) (den a) (lt-of-le-of-lt (le-trans (le-add-left G A) r) (lit< tt))) in
     let same : B ≡ G = eq-of-mul-eq-mul-right (den m) (den-pos m) B G (sym (k .3) ∙ value→cross m G U v) in
-    add-upto binary32 (U + 2 ^ 125) U (pow-pos 149) one one-and-half minus-one (mul binary32 a x) (mul binary32 m y) A B
-    (bound (i .0) (i .1) (i .2) (at-most (num a) (den a) A (den-pos a) (frac a p) (i .3)) a x (i .3) p (says x hx))
-    (bound (k .0) (k .1) (k .2) (at-most (num m) (den m) B (den-pos m) (frac m pm) (k .3)) m y (k .3) pm (says y hy))
-    (subst (λ (z : ℕ). A + z ≤ U + 2 ^ 125) (sym same) r)
+    let s : B + A ≤ U + 2 ^ 125 = le-trans (le-of-eq (add-comm B A)) (subst (λ (z : ℕ). A + z ≤ U + 2 ^ 125) (sym same) r) in
+    add-upto binary32 (U + 2 ^ 125) U (pow-pos 149) one one-and-half minus-one (mul binary32 m old) (mul binary32 a colour) B A
+    (bound (k .0) (k .1) (k .2) (at-most (num m) (den m) B (den-pos m) (frac m pm) (k .3)) m old (k .3) pm (says old ho))
+    (bound (i .0) (i .1) (i .2) (at-most (num a) (den a) A (den-pos a) (frac a p) (i .3)) a colour (i .3) p (says colour hc))
+    s

@@ -4,11 +4,13 @@ pub mod Within
 pub mod Clamped
 pub mod Patterns
 -- What follows.
-pub mod Rounding
-pub mod Narrowing
 pub mod Numbers
+pub mod Rounding
+pub mod Held
+pub mod NarrowLaws
+pub mod Narrowing
+pub mod OrderLaws
 pub mod WithinLaws
 pub mod BlendLaws
-pub mod NarrowLaws
 pub mod ClampLaws
 pub mod PatternLaws

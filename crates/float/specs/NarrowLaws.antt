@@ -1,18 +1,16 @@
--- Laws: Two values that a format holds are equal where they are the same number; a value that binary32 holds is its own narrowing.
-use mathlib.Core.Path.{_≡_, refl, sym, ap, _∙_, subst}
-use Prim.Native.Nat.{ℕ, zero, suc, _+_, _*_, _%_, _^_, _≤_, _<_}
-use native.Mathlib.Nat.{eq-of-mul-eq-mul-right, lt-of-le-of-lt, lt-of-lt-of-le, le-of-eq, lt-of-mul-lt-mul-right, mul-comm, mul-assoc, mul-right-comm, mul-lt-mul-of-pos-right, zero-mul}
-use mathlib.Core.Bool.{Bool, _&&_}
-use lib.IntN.{ℤ}
-use lib.Dec.{T, leb, ltb, eqb, leb→le, ltb→lt, lit<}
-use lib.Pow.{pow-pos}
-use lib.Ieee.{Float, nan, inf, fin, Format, binary32, low, up, down, round, fits, ofBits, toBits}
-use lib.Ieee.Fits.{and-l, and-r, down-pos, round-fits}
-use lib.Ieee.Bits.{ofBits-toBits}
-use lib.Ieee.Exact.{HasValue, round-exact}
+-- Laws: a narrowing is one rounding of the value; it fits f32, makes no NaN, and changes nothing that f32 holds. Document 01's figures.
+use mathlib.Core.Path.{_≡_, refl, sym, ap, _∙_}
+use Prim.Native.Nat.{ℕ, _+_, _-_, _*_, _^_, _<_}
+use mathlib.Core.Bool.{Bool, false, not}
+use lib.IntN.{pos, negsuc}
+use lib.Dec.{T}
+use lib.Ieee.{Float, nan, inf, fin, binary32, up, down, round, fits, isNan}
+use lib.Ieee.Exact.{HasValue}
+use lib.Ieee.Fits.{down-pos, round-fits}
+use lib.Ieee.Scale.{round-same}
 use Rattle.float.specs.Narrowed.{narrowed, NarrowSays, NarrowBitsSays}
-use Rattle.float.specs.Rounding.{toBits-value}
-use Rattle.float.specs.BlendLaws.{placed}
+use Rattle.float.specs.Held.{round-own}
+use Rattle.float.specs.Numbers.{round-no-nan}
 
 pub NarrowSays-unique : (x r s : Float) → NarrowSays x r → NarrowSays x s → r ≡ s
 NarrowSays-unique x r s p q = p ∙ sym q
@@ -20,37 +18,45 @@ NarrowSays-unique x r s p q = p ∙ sym q
 pub NarrowBitsSays-unique : (b r s : ℕ) → NarrowBitsSays b r → NarrowBitsSays b s → r ≡ s
 NarrowBitsSays-unique b r s p q = p ∙ sym q
 
-pub value-unique : (f : Format) (x y : Float) (s : Bool) (a : ℕ) → T (fits f x) → T (fits f y) → HasValue x s a (2 ^ low f) → HasValue y s a (2 ^ low f) → x ≡ y
-value-unique f x y s a p q h k = sym (ofBits-toBits f x p) ∙ ap (ofBits f) (toBits-value f x s a h ∙ sym (toBits-value f y s a k)) ∙ ofBits-toBits f y q
+-- it sees only the value
+pub narrowed-value : (x : Float) (s : Bool) (a c : ℕ) → 0 < c → HasValue x s a c → narrowed x ≡ round binary32 s a c
+unfolding narrowed
+narrowed-value nan s a c C h = absurd h
+narrowed-value (inf t) s a c C h = absurd h
+narrowed-value (fin t m e) s a c C h = ap (λ (b : Bool). round binary32 b (m * up e) (down e)) (h .0) ∙ round-same binary32 s (m * up e) (down e) a c (down-pos e) C (h .1)
 
--- in units of 2 ^ -149 a value of binary32 is q * 2 ^ j, and rounding changes nothing
-round-own : (s : Bool) (m : ℕ) (e : ℤ) (q j : ℕ) → T (fits binary32 (fin s m e)) → q < 16777216 → m * up e * 2 ^ 149 ≡ q * 2 ^ j * down e → q * 2 ^ j < 2 ^ 277 → round binary32 s (m * up e) (down e) ≡ fin s m e
-round-own s m e q j h Q v k =
-    value-unique binary32 (round binary32 s (m * up e) (down e)) (fin s m e) s (q * 2 ^ j) (round-fits binary32 s (m * up e) (down e)) h
-    (rescaled (round binary32 s (m * up e) (down e)) (round-exact binary32 s (m * up e) (down e) q j (down-pos e) Q k v))
-    (refl, v)
-  where
-    rescaled : (x : Float) → HasValue x s (m * up e) (down e) → HasValue x s (q * 2 ^ j) (2 ^ 149)
-    rescaled nan w = w
-    rescaled (inf t) w = w
-    rescaled (fin t n d) w = (
-      w .0,
-      eq-of-mul-eq-mul-right (down e) (down-pos e) (n * up d * 2 ^ 149) (q * 2 ^ j * down d)
-          (mul-right-comm (n * up d) (2 ^ 149) (down e) ∙ ap (λ (z : ℕ). z * 2 ^ 149) (w .1) ∙ mul-right-comm (m * up e) (down d) (2 ^ 149) ∙ ap (λ (z : ℕ). z * down d) v ∙ mul-right-comm (q * 2 ^ j) (down e) (down d)),
-    )
+pub narrowed-no-nan : (x : Float) → T (not (isNan x)) → T (not (isNan (narrowed x)))
+unfolding narrowed isNan
+narrowed-no-nan nan h = h
+narrowed-no-nan (inf s) h = tt
+narrowed-no-nan (fin s m e) h = round-no-nan binary32 s (m * up e) (down e)
 
-pub narrowed-same : (x : Float) → T (fits binary32 x) → narrowed x ≡ x
+pub narrowed-fits : (x : Float) → T (fits binary32 (narrowed x))
 unfolding narrowed fits
+narrowed-fits nan = tt
+narrowed-fits (inf s) = tt
+narrowed-fits (fin s m e) = round-fits binary32 s (m * up e) (down e)
+
+-- what f32 holds stays as it is
+pub narrowed-same : (x : Float) → T (fits binary32 x) → narrowed x ≡ x
+unfolding narrowed
 narrowed-same nan h = refl
 narrowed-same (inf s) h = refl
-narrowed-same (fin s zero e) h = round-own s zero e 0 0 h (lit< tt) (ap (λ (z : ℕ). z * 2 ^ 149) (zero-mul (up e)) ∙ sym (zero-mul (down e))) (lit< tt)
-narrowed-same (fin s (suc m) e) h =
-    let A = eqb (suc m % 2) 1 in
-    let B = ltb (suc m) 16777216 in
-    let C = leb (down e) (2 ^ 149) in
-    let D = ltb (suc m * up e) (2 ^ 128 * down e) in
-    let i = placed (suc m) e (ltb→lt (suc m) 16777216 (and-r A B (and-l (A && B) C (and-l (A && B && C) D h)))) (leb→le (down e) (2 ^ 149) (and-r (A && B) C (and-l (A && B && C) D h))) in
-    let l : suc m * up e < 2 ^ 128 * down e = ltb→lt (suc m * up e) (2 ^ 128 * down e) (and-r (A && B && C) D h) in
-    round-own s (suc m) e (i .0) (i .1) h (i .2) (i .3)
-    (lt-of-mul-lt-mul-right (down e)
-    (lt-of-le-of-lt (le-of-eq (sym (i .3))) (lt-of-lt-of-le (mul-lt-mul-of-pos-right l (pow-pos 149)) (le-of-eq (mul-right-comm (2 ^ 128) (down e) (2 ^ 149))))))
+narrowed-same (fin s m e) h = round-own binary32 s m e h
+
+-- ---- document 01, "Boundary figures": 1 + 2^-24 gives 1; 1 + 3·2^-24 gives 1 + 2^-22; 2^-150 gives +0; 2^128 - 2^103 gives infinity
+pub tie-down : narrowed (fin false (2 ^ 24 + 1) (negsuc 23)) ≡ fin false 1 (pos 0)
+unfolding narrowed round
+tie-down = refl
+
+pub tie-up : narrowed (fin false (2 ^ 24 + 3) (negsuc 23)) ≡ fin false (2 ^ 22 + 1) (negsuc 21)
+unfolding narrowed round
+tie-up = refl
+
+pub half-smallest : narrowed (fin false 1 (negsuc 149)) ≡ fin false 0 (pos 0)
+unfolding narrowed round
+half-smallest = refl
+
+pub half-past-largest : narrowed (fin false (2 ^ 25 - 1) (pos 103)) ≡ inf false
+unfolding narrowed round
+half-past-largest = refl

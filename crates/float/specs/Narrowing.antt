@@ -1,29 +1,22 @@
--- Laws: The binary32 pattern of a binary64 pattern's value, rounded.
+-- Laws: the binary32 pattern of a binary64 pattern's value, rounded.
 use mathlib.Core.Path.{_≡_, refl, sym, ap, _∙_, subst}
 use mathlib.Core.Logic.{_⊎_, inl, inr}
 use Prim.Native.Nat.{ℕ, zero, suc, _+_, _-_, _*_, _/_, _%_, _^_, _≤_, _<_, compare, Ordering, Ordering·lt, Ordering·eq, Ordering·gt}
 use native.Mathlib.Nat.{lt-trans, mod-lt, add-zero, div-eq-of-lt, mod-eq-of-lt, le-add-right, lt-irrefl, le-trans, le-of-eq, lt-of-lt-of-le, eq-or-lt-of-le, mul-assoc, mul-pos, mul-le-mul-right, div-lt-iff-lt-mul, le-div-iff-mul-le}
 use native.Mathlib.Omega.{arith}
-use mathlib.Core.Bool.{Bool, true, false, not, cond, true≢false}
-use lib.Dec.{T, leb, ltb, eqb, leb→le, nleb→lt, lt→ltb, eqb→eq, not-T, lit<, lit≤}
+use mathlib.Core.Bool.{Bool, true, false, not, cond}
+use lib.Dec.{T, leb, eqb, leb→le, nleb→lt, eqb→eq, not-T, lit<, lit≤}
 use lib.Pow.{pow-add, pow-pos, pow-mono, shl-lt, mod-mod-pow}
-use lib.Ieee.{Float, nan, inf, fin, binary32, binary64, up, down, size, nearest, odd, units, round, ofFields, ofBits, toBits, isNan}
+use lib.Ieee.{Float, nan, inf, binary32, binary64, size, nearest, odd, units, ofFields, ofBits, toBits}
 use lib.Ieee.Digits.{size-le}
-use lib.Ieee.Fits.{down-pos, core, round-is, nearest-le}
-use lib.Ieee.Bits.{cond-no, is-true, nanBits-is, nanBits-above}
-use lib.Ieee.Exact.{HasValue, odd-sign}
+use lib.Ieee.Fits.{core, round-is, nearest-le}
+use lib.Ieee.Bits.{cond-no}
+use lib.Ieee.Exact.{odd-sign}
 use lib.Ieee.Nearest.{closest, closest-same, nearest-ge}
-use lib.Ieee.Scale.{round-same}
 use Rattle.float.specs.Narrowed.{narrowed}
 use Rattle.float.specs.Numbers.{above-nan}
+use Rattle.float.specs.NarrowLaws.{narrowed-value}
 use Rattle.float.specs.Rounding.{Cmp, cmp, closest-div, closest-more, size-gt, size-drop, units-under, units-over}
-
--- ---- `narrowed` sees only the value
-pub narrowed-value : (x : Float) (s : Bool) (a c : ℕ) → 0 < c → HasValue x s a c → narrowed x ≡ round binary32 s a c
-unfolding narrowed
-narrowed-value nan s a c C h = absurd h
-narrowed-value (inf t) s a c C h = absurd h
-narrowed-value (fin t m e) s a c C h = ap (λ (b : Bool). round binary32 b (m * up e) (down e)) (h .0) ∙ round-same binary32 s (m * up e) (down e) a c (down-pos e) C (h .1)
 
 shifts : (q a b c e f : ℕ) → a + b + c ≡ e + f → q * 2 ^ a * 2 ^ b * 2 ^ c ≡ q * (2 ^ e * 2 ^ f)
 shifts q a b c e f h =

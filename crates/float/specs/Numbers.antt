@@ -7,8 +7,7 @@ use borrow.Author.Tests.{le-ltb}
 use lib.Ieee.{Float, nan, inf, fin, Format, binary32, binary64, prec, emax, low, hid, ones, top, up, down, odd, units, round, div, level, eq, ne, fits, isNan, nanBits, ofBits, toBits}
 use lib.Ieee.Bits.{is-true, ofBits-toBits, nanBits-is, nanBits-above}
 use lib.Ieee.Compare.{differs-from-itself}
-use lib.Ieee.Fits.{and-i, round-fits, round-is}
-use Rattle.float.specs.Narrowed.{narrowed}
+use lib.Ieee.Fits.{and-i, round-is}
 use Rattle.float.specs.Within.{number}
 
 pub nan-is : (x : Float) → isNan x ≡ true → x ≡ nan
@@ -77,18 +76,6 @@ units-no-nan f s q k = either (ltb (q * 2 ^ k) (2 ^ (low f + suc (emax f)))) (od
 -- rounding never makes a NaN
 pub round-no-nan : (f : Format) (s : Bool) (a b : ℕ) → T (not (isNan (round f s a b)))
 round-no-nan f s a b = subst (λ (v : Float). T (not (isNan v))) (sym (round-is f s a b)) (units-no-nan f s _ _)
-
-pub narrowed-no-nan : (x : Float) → T (not (isNan x)) → T (not (isNan (narrowed x)))
-unfolding narrowed isNan
-narrowed-no-nan nan h = h
-narrowed-no-nan (inf s) h = tt
-narrowed-no-nan (fin s m e) h = round-no-nan binary32 s (m * up e) (down e)
-
-pub narrowed-fits : (x : Float) → T (fits binary32 (narrowed x))
-unfolding narrowed fits
-narrowed-fits nan = tt
-narrowed-fits (inf s) = tt
-narrowed-fits (fin s m e) = round-fits binary32 s (m * up e) (down e)
 
 -- what is written of a value that fits is no NaN's pattern, where the value is no NaN
 pub no-nan-bits : (f : Format) (x : Float) → T (fits f x) → T (not (isNan x)) → T (not (nanBits f (toBits f x)))

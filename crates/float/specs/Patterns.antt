@@ -2,7 +2,7 @@
 -- The language's own conversions are undefined at a NaN. Here any NaN's pattern is a NaN, and a NaN's pattern is the one that `toBits` writes: 7FC00000, 7FF8000000000000.
 use mathlib.Core.Path.{_≡_}
 use Prim.Native.Nat.{ℕ}
-use lib.Ieee.{Float, Format, binary32, binary64, ofBits, toBits}
+use lib.Ieee.{Float, binary32, binary64, ofBits, toBits}
 
 abbrev pub Bits32Says : Float → ℕ → Type 0
 Bits32Says x r = r ≡ toBits binary32 x

@@ -1,15 +1,15 @@
--- Laws: Rounding to the nearest whole number by one division; and the bit pattern of a rounded value of binary32.
+-- Laws: rounding to the nearest whole number by one division; and the bit pattern of a rounded value of binary32.
 use mathlib.Core.Path.{_≡_, refl, sym, ap, _∙_, subst}
 use mathlib.Core.Logic.{_⊎_, inl, inr}
 use Prim.Native.Nat.{ℕ, zero, suc, _+_, _-_, _*_, _/_, _%_, _^_, _≤_, _<_, compare, Ordering, Ordering·lt, Ordering·eq, Ordering·gt}
 use native.Mathlib.Nat.{add-zero, add-comm, add-mul-div-right, mul-add-mod-self-right, add-assoc, pow-succ', le-trans, le-of-eq, lt-of-lt-of-le, lt-of-le-of-lt, lt-of-not-le, not-le-of-lt, eq-or-lt-of-le, div-add-mod', mod-lt, mul-div-cancel, mul-assoc, mul-le-mul-right, mul-le-mul, suc-mul}
 use native.Mathlib.Omega.{arith}
 use mathlib.Core.Bool.{Bool, true, false, not, cond}
-use lib.Dec.{T, ltb, isLe, isEq, eqb, leb→le, nleb→lt, eqb→eq, eqb-refl, lt→ltb, ltb→lt, lit<, lit≤}
+use lib.Dec.{T, ltb, isLe, isEq, eqb, leb→le, nleb→lt, eqb→eq, eqb-refl, ltb→lt, lit<, lit≤}
 use lib.Arith.{lt-of-le-ne, digits-div}
 use lib.Pow.{pow-add, pow-pos, pow-mono, shl-lt}
-use lib.Ieee.{Float, nan, inf, fin, Format, binary32, prec, emax, low, up, down, hid, top, ones, size, nearest, odd, units, toBits}
-use lib.Ieee.Digits.{size-lt, size-le, size-reaches}
+use lib.Ieee.{Float, nan, inf, fin, Format, binary32, prec, low, down, hid, top, size, nearest, odd, units, toBits}
+use lib.Ieee.Digits.{size-lt, size-le}
 use lib.Ieee.Fits.{down-pos}
 use lib.Ieee.Exact.{HasValue, units-val}
 use lib.Ieee.Nearest.{closest}

@@ -1,17 +1,17 @@
--- Laws: Products, 1 - a, and sums of two products of numbers from 0 to 1 are from 0 to 1.
+-- Laws: what `within` says of a value; products, 1 - a, sums and narrowings of values within 0..1; lists of them.
 use mathlib.Core.Path.{_≡_, refl, sym, ap, _∙_, subst}
-use mathlib.Core.Logic.{_⊎_, inl, inr}
-use Prim.Native.Nat.{ℕ, zero, suc, _+_, _-_, _*_, _/_, _%_, _^_, _≤_, _<_, zero-le}
-use native.Mathlib.Nat.{le-refl, mul-right-comm, mul-assoc, mul-le-mul-right, add-mul, not-le-of-lt, le-of-lt, le-trans, le-of-eq, mul-pos, mul-le-mul, mul-one, one-mul, zero-mul, mul-zero, mul-comm, sub-le, add-zero}
+use Prim.Native.Nat.{ℕ, _+_, _-_, _*_, _≤_, _<_, zero-le}
+use native.Mathlib.Nat.{mul-right-comm, mul-assoc, mul-le-mul-right, add-mul, not-le-of-lt, le-of-lt, le-trans, le-of-eq, mul-pos, mul-le-mul, mul-one, zero-mul, mul-zero, mul-comm}
 use native.Mathlib.Omega.{arith}
 use mathlib.Core.Bool.{Bool, true, false, not, _&&_, _||_, cond}
 use mathlib.Core.List.{List}
-use lib.IntN.{ℤ, pos, negsuc}
-use lib.Dec.{T, leb, ltb, eqb, leb→le, le→leb, ltb→lt, nltb→le, eqb→eq, lit<}
-use lib.Ieee.{Float, nan, inf, fin, Format, binary32, binary64, up, down, unlike, round, neg, add, sub, mul, sum, lt, eq, le}
-use lib.Ieee.Fits.{and-i, and-l, and-r, up-pos, down-pos}
+use lib.IntN.{ℤ, pos}
+use lib.Dec.{T, ltb, eqb, ltb→lt, nltb→le, eqb→eq, lit<}
+use lib.Ieee.{Float, nan, inf, fin, Format, binary32, binary64, up, down, unlike, round, add, sub, mul, sum, lt, eq, le, fits, isNan}
+use lib.Ieee.Fits.{and-i, and-l, and-r, down-pos, fits-widens}
 use lib.Ieee.Scale.{round-same}
 use lib.Ieee.Order.{round-mono}
+use Rattle.laws.specs.EveryLaws.{every-weaker}
 use Rattle.float.specs.Narrowed.{narrowed}
 use Rattle.float.specs.Within.{nought, one, within, number, allWithin, allNumbers, WithinSays, AllWithinSays, AllNumbersSays}
 
@@ -49,6 +49,22 @@ says (fin true m e) h =
     let z = eqb→eq (0 * 1 * down e) (m * up e * 1) (and-l (eqb (0 * 1 * down e) (m * up e * 1)) _ (and-l (le nought (fin true m e)) (le (fin true m e) one) h)) in
     let y : m * up e ≡ 0 = sym (mul-one (m * up e)) ∙ sym z ∙ zero-mul (down e) in
     (omega arith, λ t. y)
+
+-- within is a number, and so the cast to f64 is defined
+pub within-number : (x : Float) → T (within x) → T (number x)
+unfolding isNan
+within-number x h = go x (says x h)
+  where
+    go : (x : Float) → Says x → T (number x)
+    go nan p = p
+    go (inf s) p = tt
+    go (fin s m e) p = tt
+
+pub all-within-numbers : (xs : List Float) → T (allWithin xs) → T (allNumbers xs)
+all-within-numbers xs h = every-weaker within number within-number xs h
+
+pub widens : (x : Float) → T (fits binary32 x) → T (number x) → T (fits binary64 x && not (isNan x))
+widens x f n = and-i (fits binary64 x) (not (isNan x)) (fits-widens x f) n
 
 -- ---- a fraction from 0 to 1, rounded
 zero-is : (f : Format) → round f false 0 1 ≡ nought
@@ -185,27 +201,6 @@ module _ (f : Format) (u v : ℕ) (vp : 0 < v) (top : Float) (is : round f false
       (λ k. upto-neg (a * down d + b * down e) (down e * down d) D
       (ap (λ (z : ℕ). z * down d + b * down e) (X .1 (and-l s t k)) ∙ ap (λ (z : ℕ). 0 * down d + z * down e) (Y .1 (and-r s t k)) ∙ omega (arith, zero-mul (down d), zero-mul (down e))))
       (upto-pos (a * down d + b * down e) (down e * down d) D (cross-sum a b (down e) (down d) p q v u (X .0) (Y .0) h))
-
-small : (x : Float) → Says x → Small x 1 1
-small nan p = p
-small (inf s) p = p
-small (fin s m e) p = (let l = p .0 in omega arith, p .1)
-
-abbrev pub two : Float
-two = fin false 1 (pos 1)
-
-two-is : (f : Format) → round f false 2 1 ≡ two
-unfolding round
-two-is binary32 = refl
-two-is binary64 = refl
-
-minus-two : Upto two (fin true 0 (pos 0))
-unfolding le lt eq
-minus-two = tt
-
--- a sum of two numbers from 0 to 1 is from 0 to 2
-pub add-within : (f : Format) (x y : Float) → T (within x) → T (within y) → T (le nought (add f x y) && le (add f x y) two)
-add-within f x y h k = add-upto f 2 1 (lit< tt) two (two-is f) minus-two x y 1 1 (small x (says x h)) (small y (says y k)) (le-refl 2)
 
 -- ---- narrowed
 at-fin : (s : Bool) (m : ℕ) (e : ℤ) → narrowed (fin s m e) ≡ round binary32 s (m * up e) (down e)

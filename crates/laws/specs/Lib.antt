@@ -14,9 +14,22 @@ pub mod Bools
 pub mod Ends
 pub mod EndsLaws
 pub mod Runs
+pub mod Blank
+pub mod Answer
+pub mod Holds
+pub mod RunLaws
+pub mod RunPlaces
 pub mod Rows
 pub mod RowLaws
+pub mod Tab
+pub mod TabLaws
 pub mod Index
 pub mod Fill
 pub mod Every
 pub mod EveryLaws
+-- Ordered sums, and tables of them.
+pub mod F64
+pub mod Before
+pub mod BeforeLaws
+pub mod RowSums
+pub mod RowSumLaws

@@ -1,10 +1,8 @@
 -- The loop carries the test of the elements passed.
-use mathlib.Core.Path.{_≡_, refl, sym, ap, _∙_}
-use Prim.Native.Nat.{ℕ, _≤_, _-_}
-use mathlib.Core.Bool.{Bool, _&&_}
-use mathlib.Core.List.{List}
-use lib.ListN.{length, take, getD}
-use lib.Ieee.{Float, nan}
+use mathlib.Core.Path.{_≡_, refl}
+use Prim.Native.Nat.{_≤_, _-_}
+use lib.ListN.{length, take}
+use lib.Ieee.{nan}
 use Rattle.laws.specs.Every.{every}
 use Rattle.laws.specs.EveryLaws.{every-step, every-end}
 use Rattle.float.specs.Within.{within}

@@ -1,14 +1,15 @@
--- `narrow::narrow` meets its contract. Assumes nothing.
+-- NaNs go their own way; else the pattern is that of `narrowed x`, and reading it back gives `narrowed x`.
 use borrow.Author.Needs.{needs}
 use mathlib.Core.Path.{_≡_, sym, ap, _∙_, subst}
 use Prim.Native.Nat.{ℕ}
 use mathlib.Core.Bool.{not}
 use lib.Dec.{T}
-use lib.Ieee.{Float, binary32, binary64, fits, isNan, nanBits, ofBits, toBits}
+use lib.Ieee.{Float, binary32, binary64, nanBits, ofBits, toBits}
 use lib.Ieee.Bits.{ofBits-toBits}
 use lib.Ieee.Compare.{differs-from-itself}
 use Rattle.float.specs.Narrowed.{narrowed}
-use Rattle.float.specs.Numbers.{itself-no-nan, nan32, narrowed-no-nan, narrowed-fits, no-nan-bits}
+use Rattle.float.specs.Numbers.{itself-no-nan, nan32, no-nan-bits}
+use Rattle.float.specs.NarrowLaws.{narrowed-no-nan, narrowed-fits}
 use Rattle.float.proofs.narrow.Statement.{statement}
 use Rattle.float.proofs.narrow.Tie as tie
 

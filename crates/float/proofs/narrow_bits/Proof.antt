@@ -1,5 +1,6 @@
+-- Each way out is one case of the laws in `Narrowing`: NaN, normal, infinity, zero, below the normal range.
 use borrow.Author.Needs.{needs}
-use mathlib.Core.Path.{_≡_, sym, ap, _∙_}
+use mathlib.Core.Path.{sym, ap, _∙_}
 use Prim.Native.Nat.{ℕ, _+_}
 use native.Mathlib.Omega.{arith}
 use Rattle.float.specs.Narrowing.{sgn, at-nan, at-under, at-over, at-tiny, at-zero, tiny-small}
