@@ -181,3 +181,20 @@ FLAGS = {"fast": ["-O"], "checked": ["-O", "-C", "overflow-checks=yes"]}
 def modules(folder, names):
     """The `mod` lines for Rust files, by their own paths."""
     return "\n".join(f'#[path = "{os.path.join(folder, n + ".rs")}"]\nmod {n};' for n in names)
+
+
+def sorted_by_needs(folder, mark, have):
+    """The Rust files of a folder: those without the mark, those that can run, and those that wait for exports."""
+    support, ready, waiting = [], [], []
+    for file in sorted(f for f in os.listdir(folder) if f.endswith(".rs")):
+        with open(os.path.join(folder, file), encoding="utf-8") as f:
+            text = f.read()
+        name = file[: -len(".rs")]
+        missing = [w for w in " ".join(re.findall(r"^//! Needs:(.*)$", text, re.M)).split() if w not in have]
+        if mark not in text:
+            support.append(name)
+        elif missing:
+            waiting.append((name, missing))
+        else:
+            ready.append(name)
+    return support, ready, waiting
