@@ -14,7 +14,7 @@ ROOT = os.path.dirname(os.path.dirname(os.path.abspath(__file__)))
 TARGET = os.path.join(ROOT, "target")
 
 # The crates that export C functions: the published face, and what only tests call.
-EXPORTING = ["capi", "capi_probe"]
+EXPORTING = ["capi", "capi_probe", "probe_float"]
 
 
 def die(text):

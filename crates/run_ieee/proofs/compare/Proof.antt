@@ -2,8 +2,8 @@
 use borrow.Author.Needs.{needs}
 use Prim.Native.Nat.{_≤_, _-_}
 use lib.ListN.{length}
-use Rattle.run_float.proofs.compare.Statement.{statement}
-use Rattle.run_float.proofs.compare.Tie as tie
+use Rattle.run_ieee.proofs.compare.Statement.{statement}
+use Rattle.run_ieee.proofs.compare.Tie as tie
 
 abbrev Inv-loop : tie.InvT-loop
 Inv-loop text op r₀ i₀ r i = i ≤ length text
