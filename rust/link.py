@@ -13,8 +13,11 @@ import sys
 ROOT = os.path.dirname(os.path.dirname(os.path.abspath(__file__)))
 TARGET = os.path.join(ROOT, "target")
 
-# The crates that export C functions: the published face, and what only tests call.
-EXPORTING = ["capi", "capi_probe", "probe_float"]
+
+def exporting():
+    """The crates that export C functions: `capi`, the published face, and each `probe_NAME`, for tests alone."""
+    names = sorted(os.listdir(os.path.join(ROOT, "crates")))
+    return [n for n in names if n == "capi" or n.startswith("probe_")]
 
 
 def die(text):
@@ -93,7 +96,7 @@ def write(path, text):
 
 def bindings(path):
     """Writes the Rust module `ours`, and answers the names in it."""
-    all_exports = [e for crate in EXPORTING for e in exports(crate)]
+    all_exports = [e for crate in exporting() for e in exports(crate)]
     pairs = [bound(e) for e in all_exports]
     declared = "\n".join(p[0] for p in pairs)
     safe = "\n".join(p[1] for p in pairs)
@@ -113,7 +116,7 @@ def archives(folder=None):
     With a folder: archives for this machine, compiled from the same modules (for times on Arm)."""
     need("rt", "the Rattle toolchain proves and archives our side")
     words = []
-    for crate in EXPORTING:
+    for crate in exporting():
         if not exports(crate):
             continue
         done = subprocess.run(["rt", "staticlib", crate], cwd=ROOT, stdout=subprocess.PIPE, stderr=subprocess.STDOUT, text=True)
