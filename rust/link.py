@@ -131,6 +131,16 @@ def archives(folder=None):
     return words
 
 
+def program(name):
+    """Proves and builds a program of ours; answers the words that run it."""
+    need("rt", "the Rattle toolchain proves and builds our programs")
+    done = subprocess.run(["rt", "check", name], cwd=ROOT, stdout=subprocess.PIPE, stderr=subprocess.STDOUT, text=True)
+    if done.returncode != 0:
+        die(done.stdout + f"rt check {name} failed")
+    runner = [] if platform.machine() == "x86_64" else ["qemu-x86_64"]
+    return [*runner, os.path.join(TARGET, "bin", name)]
+
+
 # ---- Rust
 
 
