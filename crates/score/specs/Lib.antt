@@ -1,3 +1,5 @@
+pub mod Finalize
+pub mod FinalizeLaws
 pub mod Levels
 pub mod LevelLaws
 pub mod Sweep
