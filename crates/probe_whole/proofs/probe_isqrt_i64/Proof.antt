@@ -3,8 +3,8 @@ use mir.Syntax.{w64}
 use mir.Facts.{toZ-ofZ}
 use Rattle.laws.specs.Fit.{read}
 use borrow.Author.Needs.{needs}
-use Rattle.capi_probe.proofs.probe_isqrt_i64.Statement.{statement}
-use Rattle.capi_probe.proofs.probe_isqrt_i64.Tie as tie
+use Rattle.probe_whole.proofs.probe_isqrt_i64.Statement.{statement}
+use Rattle.probe_whole.proofs.probe_isqrt_i64.Tie as tie
 
 isqrt-i64-requires : tie.Need-isqrt-i64-requires
 isqrt-i64-requires c κs = search needs

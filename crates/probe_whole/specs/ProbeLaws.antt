@@ -2,7 +2,7 @@
 use mathlib.Core.Path.{_≡_}
 use lib.IntN.{ℤ}
 use Rattle.whole.specs.WholeLaws.{IsqrtI64Says-unique, DivFloorI64Says-unique, DivCeilI64Says-unique}
-use Rattle.capi_probe.specs.Probes.{ProbeIsqrtI64Says, ProbeDivFloorI64Says, ProbeDivCeilI64Says}
+use Rattle.probe_whole.specs.Probes.{ProbeIsqrtI64Says, ProbeDivFloorI64Says, ProbeDivCeilI64Says}
 
 pub ProbeIsqrtI64Says-unique : (n r s : ℤ) → ProbeIsqrtI64Says n r → ProbeIsqrtI64Says n s → r ≡ s
 ProbeIsqrtI64Says-unique n r s = IsqrtI64Says-unique n r s

@@ -1,6 +1,6 @@
 // Exports for the differential runs and the benchmark: functions that are not part of the published C face.
 // Nothing that ships links this crate. Names start with probe_.
-ghost use Rattle.capi_probe.specs.Probes.{ProbeIsqrtI64Says, ProbeDivFloorI64Says, ProbeDivCeilI64Says};
+ghost use Rattle.probe_whole.specs.Probes.{ProbeIsqrtI64Says, ProbeDivFloorI64Says, ProbeDivCeilI64Says};
 
 #[no_mangle]
 pub extern "C" fn probe_isqrt_i64(n: i64) -> i64
