@@ -1,3 +1,4 @@
 pub mod Cover
 pub mod Answers
+pub mod Steps
 pub mod AnswerLaws
