@@ -2,3 +2,4 @@ pub mod Cover
 pub mod Answers
 pub mod Steps
 pub mod AnswerLaws
+pub mod CoverLaws
