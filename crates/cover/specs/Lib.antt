@@ -3,3 +3,4 @@ pub mod Answers
 pub mod Steps
 pub mod AnswerLaws
 pub mod CoverLaws
+pub mod Figures
