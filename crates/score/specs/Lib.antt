@@ -8,3 +8,4 @@ pub mod Swept
 pub mod Scoring
 pub mod RunSums
 pub mod ScoringLaws
+pub mod CallLaws
