@@ -124,26 +124,26 @@ fn half_line(a: i64, c: i64, lo: usize, hi: usize) -> Run
     requires offset { ⌜ Bounded 1000000000 c ⌝ }
     ensures { λ r. ⌜ Kept (Above a c) lo hi (r .left) (r .right) ⌝ }
 {
-    if c >= 0 {
-        if a >= 0 {
-            return Run {
-                left: lo,
-                right: hi,
-            };
+    if c < 0 {
+        if a <= 0 {
+            return Run { left: 0, right: 0 };
         }
-        let last = rounded(c, 0 - a, false);
+        let first = rounded(0 - c, a, true);
         return Run {
-            left: lo,
-            right: whole::clamp_i64(last + 1, hi),
+            left: whole::max_usize(lo, whole::clamp_i64(first, hi)),
+            right: hi,
         };
     }
-    if a <= 0 {
-        return Run { left: 0, right: 0 };
+    if a >= 0 {
+        return Run {
+            left: lo,
+            right: hi,
+        };
     }
-    let first = rounded(0 - c, a, true);
+    let last = rounded(c, 0 - a, false);
     Run {
-        left: whole::max_usize(lo, whole::clamp_i64(first, hi)),
-        right: hi,
+        left: lo,
+        right: whole::clamp_i64(last + 1, hi),
     }
 }
 
