@@ -4,20 +4,6 @@ use cover::Banded;
 use cover::Counted;
 use cover::Ended;
 use cover::Kind;
-ghost use lib.IntN.{natAbs};
-ghost use Rattle.laws.specs.Bound.{Bounded};
-
-fn half(r: i32, dy: i32)
-    requires { ⌜ Bounded 8191 r × Bounded (natAbs r) dy ⌝ }
-{
-    show::text(b"half width, r ");
-    show::signed32(r);
-    show::text(b" dy ");
-    show::signed32(dy);
-    show::text(b": ");
-    show::signed32(disc::half_width(r, dy));
-    show::text(b"\n");
-}
 
 fn refused(number: u8) {
     show::text(b"refused ");
@@ -128,24 +114,6 @@ fn band(kind: Kind, w: usize, h: usize) {
             refused(number);
         }
     }
-}
-
-fn half_widths() {
-    half(5, 0);
-    half(5, 3);
-    half(5, 4);
-    half(5, 5);
-    half(127, 1);
-    half(128, 1);
-}
-
-fn half_widths_at_the_bounds() {
-    half(127, 127);
-    half(1, 0);
-    half(8191, 0);
-    half(8191, -8191);
-    half(8191, 8190);
-    half(-5, 3);
 }
 
 fn circles() {
@@ -284,8 +252,6 @@ fn bands_refused() {
 }
 
 fn main() {
-    half_widths();
-    half_widths_at_the_bounds();
     circles();
     triangles();
     quads();
