@@ -1,14 +1,14 @@
 -- Laws: the rows that fill_runs leaves out have no covered column; the rows that it works out are written in order.
-use mathlib.Core.Path.{_≡_, refl, sym, _∙_, ap}
+use mathlib.Core.Path.{_≡_, refl}
 use mathlib.Core.Bool.{Bool, true, false, _||_}
 use mathlib.Core.List.{List, [], _∷_}
-use mathlib.Core.Logic.{_⊎_, inl, inr, ⊎-elim}
+use mathlib.Core.Logic.{_⊎_, inl, inr}
 use Prim.Native.Nat.{ℕ, _+_, _*_, _≤_, _<_}
 use native.Mathlib.Omega.{arith}
 use native.Mathlib.Decide.{decLe}
 use lib.ListN.{length, set, replicate}
 use lib.IntN.{ℤ, pos, _+ℤ_}
-use lib.Signed.{_≤ℤ_, _<ℤ_, leZ, ltZ}
+use lib.Signed.{_≤ℤ_, _<ℤ_, ltZ}
 use Rattle.laws.specs.Parts.{zord, of+}
 use Rattle.laws.specs.Order.{≤ℤ-or-<ℤ, ≤ℤ-antisym}
 use Rattle.laws.specs.Fit.{lt-false}
@@ -16,7 +16,7 @@ use Rattle.laws.specs.Runs.{rowRun, runsOf}
 use Rattle.laws.specs.RunLaws.{row-ends, row-past, row-none, ends-within, runsBefore, runs-start, runs-more, runs-end, runs-blank}
 use Rattle.whole.specs.Whole.{ClampI64Says}
 use Rattle.whole.specs.WholeLaws.{clamp-is}
-use Rattle.polygon.specs.Polygon.{Point, at, area2, areaTest, polygonTests, polygon, corners, polygonPixel, leastOf, greatestOf, FillRunsSays}
+use Rattle.polygon.specs.Polygon.{at, area2, areaTest, polygonTests, polygon, corners, polygonPixel, leastOf, greatestOf, FillRunsSays}
 use Rattle.polygon.specs.Steps.{RowRun}
 use Rattle.polygon.specs.Box.{polygon-in-box}
 
