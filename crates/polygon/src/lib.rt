@@ -4,6 +4,7 @@ ghost use mathlib.Core.Path.{_≡_};
 ghost use Prim.Native.Nat.{_<_, _≤_};
 ghost use lib.IntN.{pos, _-ℤ_};
 ghost use lib.Signed.{_<ℤ_};
+ghost use Rattle.laws.specs.Blank.{Blank};
 ghost use Rattle.laws.specs.Bound.{Bounded};
 ghost use Rattle.refusal.specs.Refusals.{Sized};
 ghost use Rattle.polygon.specs.Polygon.{
@@ -12,7 +13,6 @@ ghost use Rattle.polygon.specs.Polygon.{
   area2,
   corners,
   InRange,
-  Blank,
   ExtentOfSays,
   FillRunsSays,
 };
