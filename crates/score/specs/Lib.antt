@@ -2,3 +2,5 @@ pub mod Levels
 pub mod LevelLaws
 pub mod Sweep
 pub mod SweepLaws
+pub mod Finalize
+pub mod FinalizeLaws

@@ -1,2 +1,3 @@
 // Scores.
+pub mod finalize;
 pub mod levels;
