@@ -14,6 +14,24 @@ use Rattle.sums.specs.declared.ShapeSums.{ShapeSums}
 use Rattle.sums.specs.Sums.{channel}
 use Rattle.score.specs.declared.finalize.Score.{Score}
 
+-- A channel's squared error as it is, and with colour p drawn over it, from its sums: line for line the Rust's, in any arithmetic.
+-- `FinalizeMeans` proves in whole numbers that these are the errors of its pixels, added up.
+module _ {E : Type 0} (two : E) (_+_ _-_ _*_ : E → E → E) where
+  infixl 6 _+_ _-_
+  infixl 7 _*_
+  unfoldable pub errorBefore : E → E → E → E
+  errorBefore t2 tc c2 = t2 - two * tc + c2
+
+  unfoldable pub errorAfter : E → E → E → E → E → E → E → E → E → E
+  errorAfter t2 tc c2 t c alpha oneMa p cnt =
+      t2 - two * oneMa * tc
+      + oneMa * oneMa * c2
+      - two * alpha * p * t
+      + two * alpha * oneMa * p * c
+      + alpha * alpha * p * p * cnt
+
+-- ---- in f64
+
 abbrev pub two : Float
 two = ofInt binary64 (pos 2)
 
@@ -21,24 +39,15 @@ two = ofInt binary64 (pos 2)
 abbrev pub oneMinus : Float → Float
 oneMinus opacity = sub binary32 one opacity
 
--- ---- a channel, by its sums
-
--- its squared error as it is
-unfoldable pub sseBefore : Float → Float → Float → Float
-sseBefore t2 tc c2 = t2 ⊖ two ⊗ tc ⊕ c2
-
--- its best colour: where denom = a·count is above 0; clamped, and narrowed
+-- a channel's best colour: where denom = a·count is above 0; clamped, and narrowed
 unfoldable pub bestColour : Float → Float → Float → Float → Float
 bestColour t c oneMa denom = narrowed (clamped (cond (lt nought denom) ((t ⊖ oneMa ⊗ c) ⊘ denom) nought))
 
--- its squared error with colour p drawn over it
-unfoldable pub sseAfter : Float → Float → Float → Float → Float → Float → Float → Float → Float → Float
-sseAfter t2 tc c2 t c alpha oneMa p cnt =
-    t2 ⊖ two ⊗ oneMa ⊗ tc
-    ⊕ oneMa ⊗ oneMa ⊗ c2
-    ⊖ two ⊗ alpha ⊗ p ⊗ t
-    ⊕ two ⊗ alpha ⊗ oneMa ⊗ p ⊗ c
-    ⊕ alpha ⊗ alpha ⊗ p ⊗ p ⊗ cnt
+abbrev pub sseBefore : Float → Float → Float → Float
+sseBefore t2 tc c2 = errorBefore two _⊕_ _⊖_ _⊗_ t2 tc c2
+
+abbrev pub sseAfter : Float → Float → Float → Float → Float → Float → Float → Float → Float → Float
+sseAfter t2 tc c2 t c alpha oneMa p cnt = errorAfter two _⊕_ _⊖_ _⊗_ t2 tc c2 t c alpha oneMa p cnt
 
 abbrev pub beforeOf : ShapeSums → ℕ → Float
 beforeOf s ch = sseBefore (channel (s .«s_t2») ch) (channel (s .«s_tc») ch) (channel (s .«s_c2») ch)

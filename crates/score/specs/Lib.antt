@@ -4,3 +4,5 @@ pub mod Sweep
 pub mod SweepLaws
 pub mod Finalize
 pub mod FinalizeLaws
+pub mod FinalizeFigures
+pub mod FinalizeMeans

@@ -65,9 +65,39 @@ fn all_after(s: ShapeSums, alpha: f64, m: f64, cnt: f64, red: f32, green: f32, b
     let t = s.s_t;
     let c = s.s_c;
     0.0
-        + sse_after(tt[0], tc[0], cc[0], t[0], c[0], alpha, m, float::widen(red), cnt)
-        + sse_after(tt[1], tc[1], cc[1], t[1], c[1], alpha, m, float::widen(green), cnt)
-        + sse_after(tt[2], tc[2], cc[2], t[2], c[2], alpha, m, float::widen(blue), cnt)
+        + sse_after(
+            tt[0],
+            tc[0],
+            cc[0],
+            t[0],
+            c[0],
+            alpha,
+            m,
+            float::widen(red),
+            cnt,
+        )
+        + sse_after(
+            tt[1],
+            tc[1],
+            cc[1],
+            t[1],
+            c[1],
+            alpha,
+            m,
+            float::widen(green),
+            cnt,
+        )
+        + sse_after(
+            tt[2],
+            tc[2],
+            cc[2],
+            t[2],
+            c[2],
+            alpha,
+            m,
+            float::widen(blue),
+            cnt,
+        )
 }
 
 // 1 - a is worked out in f32.

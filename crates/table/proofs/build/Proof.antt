@@ -1,3 +1,4 @@
+-- `build`: the tests leave the sizes and no NaN to the rows' loop, which leaves the table (`built`).
 use mathlib.Core.Path.{sym, _∙_, subst}
 use borrow.Author.Tests.{not-false}
 use Rattle.table.specs.Table.{Table, updateRefusal}

@@ -1,3 +1,4 @@
+-- `build_row`: row y is lent on and put back.
 use Rattle.table.specs.LentLaws.{row-sizes, row-numbers, whole-back}
 use borrow.Author.Needs.{needs}
 use Rattle.table.proofs.build_row.Statement.{statement}

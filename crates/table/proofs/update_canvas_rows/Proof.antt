@@ -1,3 +1,4 @@
+-- `update_canvas_rows`: the two ends name the rows of the rule (`updated`).
 use mir.Facts.{toZ-ofZ}
 use mathlib.Core.Path.{sym, _∙_, subst}
 use Rattle.table.specs.Table.{Updated, updateRefusal}

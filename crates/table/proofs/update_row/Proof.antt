@@ -1,3 +1,4 @@
+-- `update_row`: row y is lent on to either routine and put back.
 use mathlib.Core.Path.{sym, _∙_}
 use Rattle.laws.specs.Bools.{true-is}
 use Rattle.table.specs.LentLaws.{row-sizes, canvas-back}

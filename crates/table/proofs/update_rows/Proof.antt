@@ -1,3 +1,4 @@
+-- `update_rows`: the rows from lo to y are written.
 use mathlib.Core.Path.{_≡_, sym, ap, _∙_}
 use Prim.Native.Nat.{_+_, _-_, _*_, _≤_, _<_}
 use lib.ListN.{length}

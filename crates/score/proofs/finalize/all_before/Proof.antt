@@ -1,62 +1,46 @@
+-- `all_before`: the three channels from +0.
 use lib.Ieee.{ofBits}
 use Rattle.score.specs.Finalize.{allBefore}
-use native.Mathlib.Omega.{arith}
 use borrow.Author.Needs.{needs}
 use Rattle.score.proofs.finalize.all_before.Statement.{statement}
 use Rattle.score.proofs.finalize.all_before.Tie as tie
-use Rattle.score.proofs.finalize.all_before.Reads as reads
-use Rattle.score.proofs.finalize.all_before.Lts as lts
-use Rattle.score.proofs.finalize.sse_before.Reads as sse-before-reads
 
--- src/finalize.rt:54:22
 array-read-sse-before : tie.Need-array-read-sse-before
 array-read-sse-before c = search needs
 
--- src/finalize.rt:54:29
 array-read-sse-before-2 : tie.Need-array-read-sse-before-2
 array-read-sse-before-2 c = search needs
 
--- src/finalize.rt:54:36
 array-read-sse-before-3 : tie.Need-array-read-sse-before-3
 array-read-sse-before-3 c = search needs
 
--- src/finalize.rt:54:11
 sse-before-requires : tie.Need-sse-before-requires
 sse-before-requires c κs = search needs
 
--- src/finalize.rt:55:22
 array-read-sse-before-4 : tie.Need-array-read-sse-before-4
 array-read-sse-before-4 c = search needs
 
--- src/finalize.rt:55:29
 array-read-sse-before-5 : tie.Need-array-read-sse-before-5
 array-read-sse-before-5 c = search needs
 
--- src/finalize.rt:55:36
 array-read-sse-before-6 : tie.Need-array-read-sse-before-6
 array-read-sse-before-6 c = search needs
 
--- src/finalize.rt:55:11
 sse-before-requires-2 : tie.Need-sse-before-requires-2
 sse-before-requires-2 c κs = search needs
 
--- src/finalize.rt:56:22
 array-read-sse-before-7 : tie.Need-array-read-sse-before-7
 array-read-sse-before-7 c = search needs
 
--- src/finalize.rt:56:29
 array-read-sse-before-8 : tie.Need-array-read-sse-before-8
 array-read-sse-before-8 c = search needs
 
--- src/finalize.rt:56:36
 array-read-sse-before-9 : tie.Need-array-read-sse-before-9
 array-read-sse-before-9 c = search needs
 
--- src/finalize.rt:56:11
 sse-before-requires-3 : tie.Need-sse-before-requires-3
 sse-before-requires-3 c κs = search needs
 
--- src/finalize.rt:47:1
 returns : tie.Need-returns
 unfolding allBefore ofBits
 returns c = simp (c .sse-before3 .ensures, c .before .sse-before2 .ensures, c .before .before .sse-before .ensures)

@@ -1,36 +1,26 @@
+-- `best_colour`: by the test of denom; the clamp, then the narrowing.
 use lib.Ieee.{ofBits}
 use Rattle.score.specs.Finalize.{bestColour}
-use native.Mathlib.Omega.{arith}
 use borrow.Author.Needs.{needs}
 use Rattle.score.proofs.finalize.best_colour.Statement.{statement}
 use Rattle.score.proofs.finalize.best_colour.Tie as tie
-use Rattle.score.proofs.finalize.best_colour.Reads as reads
-use Rattle.score.proofs.finalize.best_colour.Lts as lts
-use Rattle.float.proofs.clamp01.Reads as clamp01-reads
-use Rattle.float.proofs.narrow.Reads as narrow-reads
 
--- src/finalize.rt:84:30
 clamp01-requires : tie.Need-clamp01-requires
 clamp01-requires c κs = search needs
 
--- src/finalize.rt:84:9
 narrow-requires : tie.Need-narrow-requires
 narrow-requires c κs = search needs
 
--- src/finalize.rt:84:9
 returns : tie.Need-returns
 unfolding bestColour ofBits
 returns c = simp (c .narrow .ensures, c .before .clamp01 .ensures, c .before .before .if1 .taken)
 
--- src/finalize.rt:86:19
 clamp01-requires-2 : tie.Need-clamp01-requires-2
 clamp01-requires-2 c κs = search needs
 
--- src/finalize.rt:86:5
 narrow-requires-2 : tie.Need-narrow-requires-2
 narrow-requires-2 c κs = search needs
 
--- src/finalize.rt:80:1
 returns-2 : tie.Need-returns-2
 unfolding bestColour ofBits
 returns-2 c = simp (c .narrow2 .ensures, c .before .clamp012 .ensures, c .before .before .if1 .left)

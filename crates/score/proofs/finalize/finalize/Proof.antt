@@ -1,89 +1,64 @@
+-- `finalize`: its steps put together by the law `scored`.
 use Rattle.score.specs.FinalizeLaws.{scored}
 use lib.Ieee.{ofBits, round}
 use borrow.Author.Tests.{eq-eqb, ne-eqb}
 use Rattle.float.specs.Narrowed.{narrowed}
-use Rattle.score.specs.Finalize.{finalized, wideChange, colourOf}
-use native.Mathlib.Omega.{arith}
+use Rattle.score.specs.Finalize.{finalized, wideChange}
 use borrow.Author.Needs.{needs}
 use Rattle.score.proofs.finalize.finalize.Statement.{statement}
 use Rattle.score.proofs.finalize.finalize.Tie as tie
-use Rattle.score.proofs.finalize.finalize.Reads as reads
-use Rattle.score.proofs.finalize.finalize.Lts as lts
-use Rattle.float.proofs.narrow.Reads as narrow-reads
-use Rattle.float.proofs.widen.Reads as widen-reads
-use Rattle.score.proofs.finalize.all_after.Reads as all-after-reads
-use Rattle.score.proofs.finalize.all_before.Reads as all-before-reads
-use Rattle.score.proofs.finalize.best_colour.Reads as best-colour-reads
-use Rattle.score.proofs.finalize.one_minus.Reads as one-minus-reads
 
--- src/finalize.rt:19:9
 returns : tie.Need-returns
 unfolding finalized wideChange ofBits narrowed round
 returns c = simp (eq-eqb _ _ (c .if1 .taken))
 
--- src/finalize.rt:27:15
 int-to-float-cnt : tie.Need-int-to-float-cnt
 int-to-float-cnt c = search needs
 
--- src/finalize.rt:28:9
 one-minus-requires : tie.Need-one-minus-requires
 one-minus-requires c κs = search needs
 
--- src/finalize.rt:29:9
 widen-requires : tie.Need-widen-requires
 widen-requires c κs = search needs
 
--- src/finalize.rt:33:27
 array-read-best-colour : tie.Need-array-read-best-colour
 array-read-best-colour c = search needs
 
--- src/finalize.rt:33:33
 array-read-best-colour-2 : tie.Need-array-read-best-colour-2
 array-read-best-colour-2 c = search needs
 
--- src/finalize.rt:33:9
 best-colour-requires : tie.Need-best-colour-requires
 best-colour-requires c κs = search needs
 
--- src/finalize.rt:34:29
 array-read-best-colour-3 : tie.Need-array-read-best-colour-3
 array-read-best-colour-3 c = search needs
 
--- src/finalize.rt:34:35
 array-read-best-colour-4 : tie.Need-array-read-best-colour-4
 array-read-best-colour-4 c = search needs
 
--- src/finalize.rt:34:9
 best-colour-requires-2 : tie.Need-best-colour-requires-2
 best-colour-requires-2 c κs = search needs
 
--- src/finalize.rt:35:28
 array-read-best-colour-5 : tie.Need-array-read-best-colour-5
 array-read-best-colour-5 c = search needs
 
--- src/finalize.rt:35:34
 array-read-best-colour-6 : tie.Need-array-read-best-colour-6
 array-read-best-colour-6 c = search needs
 
--- src/finalize.rt:35:9
 best-colour-requires-3 : tie.Need-best-colour-requires-3
 best-colour-requires-3 c κs = search needs
 
--- src/finalize.rt:36:9
 all-after-requires : tie.Need-all-after-requires
 all-after-requires c κs = search needs
 
--- src/finalize.rt:37:9
 all-before-requires : tie.Need-all-before-requires
 all-before-requires c κs = search needs
 
--- src/finalize.rt:40:17
 narrow-requires : tie.Need-narrow-requires
 narrow-requires c κs = search needs
 
--- src/finalize.rt:14:1
 returns-2 : tie.Need-returns-2
-returns-2 c = 
+returns-2 c =
     scored _ _ _ _ _ _ _ _ _ _ (ne-eqb _ _ (c .before .before .before .before .before .before .before .before .before .before .before .if1 .left)) (c .before .before .before .before .before .before .before .before .before .one-minus .ensures) (c .before .before .before .before .before .before .before .before .widen .ensures)
     (c .before .before .before .before .before .best-colour .ensures) (c .before .before .before .before .best-colour2 .ensures) (c .before .before .before .best-colour3 .ensures)
     (c .before .before .all-after .ensures) (c .before .all-before .ensures) (c .narrow .ensures)

@@ -1,17 +1,12 @@
+-- `one_minus`: the difference is rounded to f32, and a widened value is the value.
 use lib.Ieee.{ofBits}
-use native.Mathlib.Omega.{arith}
 use borrow.Author.Needs.{needs}
 use Rattle.score.proofs.finalize.one_minus.Statement.{statement}
 use Rattle.score.proofs.finalize.one_minus.Tie as tie
-use Rattle.score.proofs.finalize.one_minus.Reads as reads
-use Rattle.score.proofs.finalize.one_minus.Lts as lts
-use Rattle.float.proofs.widen.Reads as widen-reads
 
--- src/finalize.rt:77:5
 widen-requires : tie.Need-widen-requires
 widen-requires c κs = search needs
 
--- src/finalize.rt:74:1
 returns : tie.Need-returns
 unfolding ofBits
 returns c = c .widen .ensures
