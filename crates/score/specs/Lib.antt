@@ -1,8 +1,9 @@
-pub mod Levels
-pub mod LevelLaws
-pub mod Sweep
-pub mod SweepLaws
 pub mod Finalize
 pub mod FinalizeLaws
 pub mod FinalizeFigures
 pub mod FinalizeMeans
+pub mod Levels
+pub mod LevelLaws
+pub mod Sweep
+pub mod SweepLaws
+pub mod Swept
