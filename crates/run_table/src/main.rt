@@ -1,4 +1,5 @@
-// Document 01's figures of an update, and the refusals of both calls, several wrong at once.
+// A small table's numbers, document 01's figures of an update, and the refusals of both calls, several wrong at once.
+use sums::ShapeSums;
 
 const MARK: f64 = 7.0;
 
@@ -222,7 +223,86 @@ fn refreshes() {
     refresh(2, 3, 18, 17, 135, 2.0, 0.25);
 }
 
+// ---- the numbers themselves, of 1 row of 2 pixels
+
+fn number(x: f64) {
+    show::text(b" ");
+    show::hex(float::bits64(x), 16);
+}
+
+fn numbers(table: &[f64]) {
+    for i in 0..table.len() {
+        number(table[i]);
+        if i % 3 == 2 {
+            show::text(b"\n");
+        }
+    }
+}
+
+fn three(xs: [f64; 3]) {
+    number(xs[0]);
+    number(xs[1]);
+    number(xs[2]);
+    show::text(b"\n");
+}
+
+// Pixels left to right added to sums over five others.
+fn span(table: &[f64], left: usize, right: usize) {
+    if table.len() != 45 {
+        return;
+    }
+    if right < left {
+        return;
+    }
+    if 2 < right {
+        return;
+    }
+    let some = ShapeSums {
+        s_t: [1.0, 2.0, 3.0],
+        s_c: [4.0, 5.0, 6.0],
+        s_t2: [7.0, 8.0, 9.0],
+        s_c2: [10.0, 11.0, 12.0],
+        s_tc: [13.0, 14.0, 15.0],
+        count: 5,
+    };
+    let s = table::add_span(table, 2, 0, left, right, some);
+    show::text(b"span ");
+    show::unsigned(left as u64);
+    show::text(b" to ");
+    show::unsigned(right as u64);
+    show::text(b", ");
+    show::unsigned(s.count as u64);
+    show::text(b" pixels\n");
+    let t = s.s_t;
+    let c = s.s_c;
+    let tt = s.s_t2;
+    let cc = s.s_c2;
+    let tc = s.s_tc;
+    three(t);
+    three(c);
+    three(tt);
+    three(cc);
+    three(tc);
+}
+
+fn small() {
+    let target = [0.1f32, 0.2, 0.3, 0.7, 0.9, -0.0];
+    let canvas = [0.5f32, 0.25, -0.0, 0.3, 0.6, 1.0];
+    let mut places = [7.0; 45];
+    table::build(&target, &canvas, 2, 1, &mut places);
+    show::text(b"built\n");
+    numbers(&places);
+    span(&places, 0, 1);
+    span(&places, 0, 2);
+    span(&places, 1, 2);
+    let changed = [0.9f32, 0.8, 0.7, 0.6, float::of_bits32(0x7fc0_0000), 0.4];
+    table::update_canvas_rows(&target, &changed, 2, 1, &mut places, 0, 0);
+    show::text(b"updated, with a NaN\n");
+    numbers(&places);
+}
+
 fn main() {
+    small();
     updates();
     builds();
     refreshes();
