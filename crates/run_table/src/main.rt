@@ -301,8 +301,19 @@ fn small() {
     numbers(&places);
 }
 
+// The same pixels as 2 rows of 1: each row starts afresh.
+fn tall() {
+    let target = [0.1f32, 0.2, 0.3, 0.7, 0.9, -0.0];
+    let canvas = [0.5f32, 0.25, -0.0, 0.3, 0.6, 1.0];
+    let mut places = [7.0; 60];
+    table::build(&target, &canvas, 1, 2, &mut places);
+    show::text(b"built, 2 rows\n");
+    numbers(&places);
+}
+
 fn main() {
     small();
+    tall();
     updates();
     builds();
     refreshes();

@@ -91,7 +91,12 @@ pub past-f32 : answer (sums (three64 0x6974e718d7d7625a 0x3ff0000000000000 0x3fe
 unfolding finalized noScore wideChange colourAt beforeAt afterAt colourOf errorAfter errorBefore noSums pixelSums plus narrowed clamped ofBits toBits round add sub mul div lt ofInt
 past-f32 = refl
 
--- terms in their order
-pub in-order : answer (sums (three64 0x3fe9999999999999 0x3fd3333333333333 0x3feccccccccccccd) (three64 0x3fc999999999999a 0x3fe3333333333333 0x3fd999999999999a) (three64 0x3fd7ae147ae147ae 0x3fe0f5c28f5c28f6 0x3fe6b851eb851eb8) (three64 0x3fd28f5c28f5c28f 0x3fea8f5c28f5c28f 0x3fe3851eb851eb85) (three64 0x3fc851eb851eb852 0x3fdb851eb851eb85 0x3fe23d70a3d70a3d) 3) 0x3e99999a ≡ 3 ∷ 0xbee21dc4 ∷ 0x3f3bbbbb ∷ 0x00000000 ∷ 0x3f305b05 ∷ []
+-- terms added in another order would give A4800000
+pub added-in-order : answer (sums (three64 0x400290f5afa57d52 0x0000000000000000 0x0000000000000000) (three64 0x40070b0559f27fd9 0x0000000000000000 0x0000000000000000) (three64 0x3fc53ac8adf561d8 0x0000000000000000 0x0000000000000000) (three64 0x3fc150199a348444 0x0000000000000000 0x0000000000000000) (three64 0x3fc54f5d04a0fe74 0x0000000000000000 0x0000000000000000) 3) 0x3e99999a ≡ 3 ∷ 0xa4a00000 ∷ 0x3ead3c19 ∷ 0x00000000 ∷ 0x00000000 ∷ []
 unfolding finalized noScore wideChange colourAt beforeAt afterAt colourOf errorAfter errorBefore noSums pixelSums plus narrowed clamped ofBits toBits round add sub mul div lt ofInt
-in-order = refl
+added-in-order = refl
+
+-- the square of p taken apart would give 25400000
+pub squared-in-order : answer (sums (three64 0x4003490ec3966492 0x0000000000000000 0x0000000000000000) (three64 0x4003de50bd3fbcff 0x0000000000000000 0x0000000000000000) (three64 0x3fe0ca5b7900ea58 0x0000000000000000 0x0000000000000000) (three64 0x3fe83f399a5dad09 0x0000000000000000 0x0000000000000000) (three64 0x3fe8d1bd69d9f549 0x0000000000000000 0x0000000000000000) 7) 0x3f333333 ≡ 7 ∷ 0x25000000 ∷ 0x3eae09f7 ∷ 0x00000000 ∷ 0x00000000 ∷ []
+unfolding finalized noScore wideChange colourAt beforeAt afterAt colourOf errorAfter errorBefore noSums pixelSums plus narrowed clamped ofBits toBits round add sub mul div lt ofInt
+squared-in-order = refl
