@@ -13,7 +13,6 @@ use lib.IntN.{ℤ, pos}
 use lib.Signed.{leZ, ltZ}
 use native.Mathlib.Decide.{decLe}
 use borrow.Author.Tests.{le-leb, lt-leb, lt-ltb, le-ltb}
-use Rattle.laws.specs.RowSumLaws.{redone-fresh, kept-target}
 use lib.Ieee.{Float, nan}
 use Rattle.laws.specs.F64.{_⊕_}
 use Rattle.laws.specs.Before.{before}
@@ -34,7 +33,7 @@ use Rattle.table.specs.LayoutLaws.{lane-le, at-row, entries-same}
 -- ---- a place
 
 -- the number of a series and a channel among sums
-abbrev field : Series → ShapeSums → List Float
+abbrev pub field : Series → ShapeSums → List Float
 field (ofTarget target-values) a = a .«s_t»
 field (ofTarget target-squares) a = a .«s_t2»
 field (ofCanvas canvas-values) a = a .«s_c»
@@ -149,7 +148,7 @@ cell w y i ch p l c =
     let e : y * (w * 3) + (i * 3 + ch) ≡ (y * w + i) * 3 + ch = omega arith in
     getD-cut (w * 3) y (i * 3 + ch) p nan (omega arith) ∙ ap (λ (j : ℕ). getD p j nan) e
 
-row-rule : (w : ℕ) (target canvas : List Float) (s : Series) (ch y x : ℕ) → ch < 3 → x ≤ w
+pub row-rule : (w : ℕ) (target canvas : List Float) (s : Series) (ch y x : ℕ) → ch < 3 → x ≤ w
     → channel (field s (sumsAt (cut (w * 3) y target) (cut (w * 3) y canvas) x)) ch ≡ sumOf w target canvas s ch y x
 unfolding targetSum canvasSum
 row-rule w target canvas (ofTarget s) ch y x c m =
