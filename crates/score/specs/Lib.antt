@@ -7,3 +7,6 @@ pub mod LevelLaws
 pub mod Sweep
 pub mod SweepLaws
 pub mod Swept
+pub mod Scoring
+pub mod RunSums
+pub mod ScoringLaws
