@@ -1,7 +1,8 @@
-use Rattle.table.specs.LentLaws.{row-sizes, row-numbers, whole-back}
+-- `rebuild_at`: row y is lent on and put back.
+use Rattle.table.specs.LentLaws.{row-sizes, row-back}
 use borrow.Author.Needs.{needs}
-use Rattle.table.proofs.build_row.Statement.{statement}
-use Rattle.table.proofs.build_row.Tie as tie
+use Rattle.table.proofs.rebuild_at.Statement.{statement}
+use Rattle.table.proofs.rebuild_at.Tie as tie
 
 add-n : tie.Need-add-n
 add-n c = search needs
@@ -43,11 +44,7 @@ rebuild-row-requires : tie.Need-rebuild-row-requires
 rebuild-row-requires c κs =
     let st = c .before .before .before .before .before .before in
     let a = st .args in
-    let t = c .before .row-of .ensures in
-    let u = c .row-of2 .ensures in (
-      row-sizes (a .w) (a .y) (a .target .now) (a .canvas .now) (a .table .now) _ _ t u (st .pre .0 .0) (st .pre .0 .1) (st .pre .0 .2) (st .pre .0 .3),
-      row-numbers (a .w) (a .y) (a .target .now) (a .canvas .now) (a .table .now) _ _ t u (st .pre .1 .0) (st .pre .1 .1),
-    )
+    row-sizes (a .w) (a .y) (a .target .now) (a .canvas .now) (a .table .now) _ _ (c .before .row-of .ensures) (c .row-of2 .ensures) (st .pre .0) (st .pre .1) (st .pre .2) (st .pre .3)
 
 same-length : tie.Need-same-length
 same-length c = search needs
@@ -55,10 +52,10 @@ same-length c = search needs
 returns : tie.Need-returns
 returns c =
     let a = c .before .before .before .before .before .before .before .before .before .args in
-    whole-back (a .w) (a .y) (a .target .now) (a .canvas .now) (a .table .now) _ _ (c .before .before .before .before .row-of .ensures) (c .before .before .before .row-of2 .ensures) (c .before .before .rebuild-row .last .0) (c .before .before .rebuild-row .ensures)
+    row-back (a .w) (a .y) (a .target .now) (a .canvas .now) (a .table .now) _ _ (c .before .before .before .before .row-of .ensures) (c .before .before .before .row-of2 .ensures) (a .whole) (c .before .before .rebuild-row .last .0) (c .before .before .rebuild-row .ensures)
 
-pub build-row-spec : {M : Type 1} → statement M
-build-row-spec =
+pub rebuild-at-spec : {M : Type 1} → statement M
+rebuild-at-spec =
     tie.close
     (tie.spec
     add-n

@@ -1,26 +1,27 @@
+-- `rebuild_rows`: the rows from lo to y are written.
 use mathlib.Core.Path.{_≡_, sym, ap, _∙_}
 use Prim.Native.Nat.{_+_, _-_, _*_, _≤_, _<_}
 use lib.ListN.{length}
 use Rattle.laws.specs.Rows.{cut, putRow, putRows}
 use Rattle.laws.specs.RowLaws.{putRows-none, putRows-more, row-in}
-use Rattle.table.specs.Fills.{canvasAt}
+use Rattle.table.specs.Fills.{rowAt}
 use borrow.Author.Needs.{needs}
 use native.Mathlib.Omega.{arith}
-use Rattle.table.proofs.update_rows.Statement.{statement}
-use Rattle.table.proofs.update_rows.Tie as tie
+use Rattle.table.proofs.rebuild_rows.Statement.{statement}
+use Rattle.table.proofs.rebuild_rows.Tie as tie
 
 abbrev Inv-loop : tie.InvT-loop
-Inv-loop target canvas w h table₀ lo hi y₀ table y =
-    (lo ≤ y) × (y ≤ hi) × (table ≡ putRows ((w + 1) * 15) (canvasAt w target canvas) lo y table₀) × (length table ≡ h * ((w + 1) * 15))
+Inv-loop target canvas w h table₀ lo hi whole y₀ table y =
+    (lo ≤ y) × (y ≤ hi) × (table ≡ putRows ((w + 1) * 15) (rowAt whole w target canvas) lo y table₀) × (length table ≡ h * ((w + 1) * 15))
 
 abbrev μ-loop : tie.MeasureT-loop
-μ-loop target canvas w h table₀ lo hi y₀ table y = hi - y
+μ-loop target canvas w h table₀ lo hi whole y₀ table y = hi - y
 
 loop-holds : tie.Need-loop-holds Inv-loop μ-loop
 loop-holds c = (omega arith, omega arith, sym (putRows-none _ _ _ _), c .before .before .before .pre .0 .places)
 
-update-row-requires : tie.Need-update-row-requires Inv-loop μ-loop
-update-row-requires c κs =
+rebuild-at-requires : tie.Need-rebuild-at-requires Inv-loop μ-loop
+rebuild-at-requires c κs =
     let st = c .before .before .before .before .before .before in
     let a = st .args in
     let l = c .before .before .loop in
@@ -37,12 +38,12 @@ loop-again : tie.Need-loop-again Inv-loop μ-loop
 loop-again c =
     let a = c .before .before .before .before .before .before .before .before .before .args in
     let l = c .before .before .before .before .before .loop in
-    let r = c .before .before .update-row in (
+    let r = c .before .before .rebuild-at in (
       omega arith,
       omega arith,
       r .ensures
-          ∙ ap (λ m. putRow ((a .w + 1) * 15) (l .y) (canvasAt (a .w) (a .target .now) (a .canvas .now) (l .y) (cut ((a .w + 1) * 15) (l .y) m)) m) (l .inv .2)
-          ∙ putRows-more ((a .w + 1) * 15) (canvasAt (a .w) (a .target .now) (a .canvas .now)) (a .lo) (l .y) (a .table .now) (l .inv .0),
+          ∙ ap (λ m. putRow ((a .w + 1) * 15) (l .y) (rowAt (a .whole) (a .w) (a .target .now) (a .canvas .now) (l .y) (cut ((a .w + 1) * 15) (l .y) m)) m) (l .inv .2)
+          ∙ putRows-more ((a .w + 1) * 15) (rowAt (a .whole) (a .w) (a .target .now) (a .canvas .now)) (a .lo) (l .y) (a .table .now) (l .inv .0),
       r .kept .1 .1 .1 .0 ∙ l .inv .3,
     )
 
@@ -54,14 +55,14 @@ returns c =
     let e : c .before .loop .y ≡ c .before .before .before .before .before .args .hi = omega arith in
     rw e at (c .before .loop .inv .2)
 
-pub update-rows-spec : {M : Type 1} → statement M
-update-rows-spec =
+pub rebuild-rows-spec : {M : Type 1} → statement M
+rebuild-rows-spec =
     tie.close
     (tie.spec
     Inv-loop
     μ-loop
     loop-holds
-    update-row-requires
+    rebuild-at-requires
     add-y
     loop-less
     loop-again
