@@ -57,14 +57,16 @@ afterAt s a ch =
 unfoldable pub wideChange : ShapeSums → Float → Float
 wideChange s a = overChannels (afterAt s a) ⊖ overChannels (beforeAt s)
 
--- nothing covered: change +0, colour 0
-unfoldable pub noScore : ℕ → Score
-noScore n = record { count = n; change = nought; red = nought; green = nought; blue = nought }
+-- change +0, colour 0
+unfoldable pub noScore : Float → ℕ → Score
+noScore a n = record { opacity = a; count = n; change = nought; red = nought; green = nought; blue = nought }
 
+-- the score at the opacity a; nothing covered gives change +0 and colour 0
 unfoldable pub finalized : ShapeSums → Float → Score
 finalized s a =
-    cond (eqb (s .count) 0) (noScore 0)
+    cond (eqb (s .count) 0) (noScore a 0)
     (record {
+      opacity = a;
       count = s .count;
       change = narrowed (wideChange s a);
       red = colourAt s a 0;

@@ -24,11 +24,11 @@ module _ (s : ShapeSums) (opacity a m n p0 p1 p2 b0 b1 b2 e0 e1 e2 ch : Float) w
       → e1 ≡ errorAfter (channel (s .«s_t2») 1) (channel (s .«s_tc») 1) (channel (s .«s_c2») 1) (channel (s .«s_t») 1) (channel (s .«s_c») 1) a m p1 n
       → e2 ≡ errorAfter (channel (s .«s_t2») 2) (channel (s .«s_tc») 2) (channel (s .«s_c2») 2) (channel (s .«s_t») 2) (channel (s .«s_c») 2) a m p2 n
       → ch ≡ narrowed ((nought ⊕ e0 ⊕ e1 ⊕ e2) ⊖ (nought ⊕ b0 ⊕ b1 ⊕ b2))
-      → _≡_ {A = Score} (record { count = s .count; change = ch; red = p0; green = p1; blue = p2 }) (finalized s opacity)
+      → _≡_ {A = Score} (record { opacity = opacity; count = s .count; change = ch; red = p0; green = p1; blue = p2 }) (finalized s opacity)
   unfolding finalized wideChange afterAt colourAt
   finalized-steps z ha hm hn h0 h1 h2 k0 k1 k2 l0 l1 l2 hc =
       simp (ne-eqb (s .count) 0 z, hc, l0, l1, l2, k0, k1, k2, h0, h1, h2, ha, hm, hn)
 
-pub finalized-none : (s : ShapeSums) (a : Float) → s .count ≡ 0 → noScore 0 ≡ finalized s a
+pub finalized-none : (s : ShapeSums) (a : Float) → s .count ≡ 0 → noScore a 0 ≡ finalized s a
 unfolding finalized
 finalized-none s a z = simp (eq-eqb (s .count) 0 z)

@@ -4,3 +4,4 @@ pub mod Levels
 pub mod LevelLaws
 pub mod Sweep
 pub mod SweepLaws
+pub mod Swept

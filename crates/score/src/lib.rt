@@ -1,5 +1,7 @@
 // Scores: what drawing a shape over the canvas changes, worked out from sums over its pixels.
 ghost use mathlib.Core.Path.{_≡_};
+ghost use Prim.Native.Nat.{_≤_};
+ghost use lib.ListN.{length};
 ghost use Rattle.laws.specs.F64.{_⊗_};
 ghost use Rattle.score.specs.Finalize.{
   errorBefore,
@@ -8,11 +10,14 @@ ghost use Rattle.score.specs.Finalize.{
   noScore,
   FinalizeSays,
 };
+ghost use Rattle.score.specs.Swept.{swept};
 use sums::ShapeSums;
 
 pub mod levels;
 
+// A shape's score: the opacity it was scored at, how many pixels it covers, the change of the squared error, its colour.
 pub struct Score {
+    pub opacity: f32,
     pub count: u32,
     pub change: f32,
     pub red: f32,
@@ -41,10 +46,11 @@ fn error_after(tt: f64, tc: f64, cc: f64, t: f64, c: f64, a: f64, m: f64, p: f64
     tt - 2.0 * m * tc + m * m * cc - 2.0 * a * p * t + 2.0 * a * m * p * c + a * a * p * p * n
 }
 
-fn no_score(count: u32) -> Score
-    ensures { λ r. ⌜ r ≡ noScore count ⌝ }
+fn no_score(opacity: f32, count: u32) -> Score
+    ensures { λ r. ⌜ r ≡ noScore opacity count ⌝ }
 {
     Score {
+        opacity: opacity,
         count: count,
         change: 0.0,
         red: 0.0,
@@ -77,7 +83,7 @@ pub fn finalize(s: ShapeSums, opacity: f32) -> Score
 {
     let count = s.count;
     if count == 0 {
-        return no_score(0);
+        return no_score(opacity, 0);
     }
     let m = float::widen(1.0 - opacity);
     let a = float::widen(opacity);
@@ -93,10 +99,32 @@ pub fn finalize(s: ShapeSums, opacity: f32) -> Score
     let before = 0.0 + red.before + green.before + blue.before;
     let after = 0.0 + red.after + green.after + blue.after;
     Score {
+        opacity: opacity,
         count: count,
         change: float::narrow(after - before),
         red: red.colour,
         green: green.colour,
         blue: blue.colour,
     }
+}
+
+// The first of the first n levels with the strictly smallest change. The lowest change so far starts at infinity, so
+// that a NaN is never taken.
+fn sweep(s: ShapeSums, levels: &[f32], n: usize) -> Score
+    requires { ⌜ (1 ≤ n) × (n ≤ length (now levels)) ⌝ }
+    ensures { λ r. ⌜ r ≡ swept s (now (levels .entry)) n ⌝ }
+{
+    let count = s.count;
+    let mut best = no_score(levels[0], count);
+    let mut lowest = 1.0 / 0.0;
+    let mut i = 0;
+    while i < n {
+        let score = finalize(s, levels[i]);
+        if score.change < lowest {
+            lowest = score.change;
+            best = score;
+        }
+        i += 1;
+    }
+    best
 }
