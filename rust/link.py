@@ -123,14 +123,14 @@ def bindings(path):
     return {e[0] for e in all_exports}
 
 
-def archives(folder=None):
-    """Proves and archives the exporting crates; answers the linker's words.
+def archives(folder=None, only=None):
+    """Proves and archives the exporting crates, or one of them; answers the linker's words.
 
     With a folder: archives for this machine, compiled from the same modules (for times on Arm)."""
     need("rt", "the Rattle toolchain proves and archives our side")
     words = []
     for crate in exporting():
-        if not exports(crate):
+        if not exports(crate) or only not in (None, crate):
             continue
         done = subprocess.run(["rt", "staticlib", crate], cwd=ROOT, stdout=subprocess.PIPE, stderr=subprocess.STDOUT, text=True)
         if done.returncode != 0:
