@@ -37,5 +37,7 @@ pub mod Before
 pub mod BeforeLaws
 pub mod PixelSums
 pub mod PixelSumLaws
+pub mod RowFold
+pub mod RowFoldLaws
 pub mod RowSums
 pub mod RowSumLaws
