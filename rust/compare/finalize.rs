@@ -41,8 +41,8 @@ fn differs(case: &[i64]) -> Option<(String, String)> {
     let rust = s.finalize(a, None);
     let bits = |x: [f32; 4]| x.map(|y| format!("{:08X}", y.to_bits()));
     unequal(
-        (ours.count, bits([ours.change, ours.red, ours.green, ours.blue])),
-        (s.count, bits([rust.delta_sse, rust.color[0], rust.color[1], rust.color[2]])),
+        (ours.opacity.to_bits(), ours.count, bits([ours.change, ours.red, ours.green, ours.blue])),
+        (a.to_bits(), s.count, bits([rust.delta_sse, rust.color[0], rust.color[1], rust.color[2]])),
     )
 }
 

@@ -18,7 +18,7 @@ abbrev pub sumsOf : ProbedSums → ShapeSums
 sumsOf s = record { «s_t» = s .«s_t»; «s_c» = s .«s_c»; «s_t2» = s .«s_t2»; «s_c2» = s .«s_c2»; «s_tc» = s .«s_tc»; count = s .count }
 
 abbrev pub scoreOf : Score → ProbedScore
-scoreOf r = record { count = r .count; change = r .change; red = r .red; green = r .green; blue = r .blue }
+scoreOf r = record { opacity = r .opacity; count = r .count; change = r .change; red = r .red; green = r .green; blue = r .blue }
 
 abbrev pub ProbeFinalizeSays : ProbedSums → Float → ProbedScore → Type 0
 ProbeFinalizeSays s a r = r ≡ scoreOf (finalized (sumsOf s) a)

@@ -14,6 +14,7 @@ pub struct ProbedSums {
 
 #[repr(C)]
 pub struct ProbedScore {
+    pub opacity: f32,
     pub count: u32,
     pub change: f32,
     pub red: f32,
@@ -47,6 +48,7 @@ pub extern "C" fn probe_finalize(s: ProbedSums, opacity: f32) -> ProbedScore
     };
     let r = score::finalize(sums, opacity);
     ProbedScore {
+        opacity: r.opacity,
         count: r.count,
         change: r.change,
         red: r.red,
