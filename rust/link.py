@@ -59,7 +59,17 @@ def exports(crate):
     return found
 
 
-def bound(export):
+def structs(crate):
+    """The `#[repr(C)]` structs of a crate, as Rust."""
+    path = os.path.join(ROOT, "crates", crate, "src", "lib.rt")
+    if not os.path.exists(path):
+        return {}
+    text = re.sub(r"//[^\n]*", "", open(path, encoding="utf-8").read())
+    found = re.finditer(r"#\[repr\(C\)\]\s*pub struct (\w+) \{[^}]*\}", text)
+    return {m.group(1): m.group(0).replace("pub struct", "#[derive(Clone, Copy, Debug)]\npub struct") for m in found}
+
+
+def bound(export, known):
     """The C declaration of an export, and a safe Rust function over it."""
     name, args, result = export
     declared, taken, handed = [], [], []
@@ -75,7 +85,7 @@ def bound(export):
             pointer = "*mut" if one.group(1) else "*const"
             declared.append(f"{arg}: {pointer} {one.group(2)}")
             handed.append(arg)
-        elif re.fullmatch(SCALAR, kind):
+        elif re.fullmatch(SCALAR, kind) or kind in known:
             declared.append(f"{arg}: {kind}")
             handed.append(arg)
         else:
@@ -97,27 +107,30 @@ def write(path, text):
 def bindings(path):
     """Writes the Rust module `ours`, and answers the names in it."""
     all_exports = [e for crate in exporting() for e in exports(crate)]
-    pairs = [bound(e) for e in all_exports]
+    known = {name: text for crate in exporting() for name, text in structs(crate).items()}
+    pairs = [bound(e, known) for e in all_exports]
     declared = "\n".join(p[0] for p in pairs)
     safe = "\n".join(p[1] for p in pairs)
     write(
         path,
         "// Made by rust/link.py from the sources of the exporting crates.\n"
         "#![allow(dead_code)]\n"
+        "#![allow(unused_imports)]\n"
         "#![allow(clippy::too_many_arguments)]\n\n"
-        f"mod c {{\n    unsafe extern \"C\" {{\n{declared}\n    }}\n}}\n\n{safe}",
+        + "".join(text + "\n\n" for text in known.values())
+        + f"mod c {{\n    use super::*;\n    unsafe extern \"C\" {{\n{declared}\n    }}\n}}\n\n{safe}",
     )
     return {e[0] for e in all_exports}
 
 
-def archives(folder=None):
-    """Proves and archives the exporting crates; answers the linker's words.
+def archives(folder=None, only=None):
+    """Proves and archives the exporting crates, or one of them; answers the linker's words.
 
     With a folder: archives for this machine, compiled from the same modules (for times on Arm)."""
     need("rt", "the Rattle toolchain proves and archives our side")
     words = []
     for crate in exporting():
-        if not exports(crate):
+        if not exports(crate) or only not in (None, crate):
             continue
         done = subprocess.run(["rt", "staticlib", crate], cwd=ROOT, stdout=subprocess.PIPE, stderr=subprocess.STDOUT, text=True)
         if done.returncode != 0:

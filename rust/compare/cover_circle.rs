@@ -16,7 +16,7 @@ pub fn comparisons() -> Vec<Comparison> {
         Comparison {
             name: "cover: count_circle",
             numbers: NUMBERS[1],
-            cost: 20,
+            cost: 100,
             fixed,
             draw: |d, case| draw_passable(d, 1, case),
             allowed: passable,

@@ -35,7 +35,7 @@ fn counts(name: &'static str, kind: i64) -> Comparison {
     Comparison {
         name,
         numbers: NUMBERS[kind as usize],
-        cost: 20,
+        cost: 100,
         fixed: if kind == 2 { |see| every_small(2, see) } else { |see| every_small(3, see) },
         draw: if kind == 2 { |d, case| draw_passable(d, 2, case) } else { |d, case| draw_passable(d, 3, case) },
         allowed: passable,
