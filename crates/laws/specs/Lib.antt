@@ -14,6 +14,11 @@ pub mod Bools
 pub mod Ends
 pub mod EndsLaws
 pub mod Runs
+pub mod Blank
+pub mod Answer
+pub mod Holds
+pub mod RunLaws
+pub mod RunPlaces
 pub mod Rows
 pub mod RowLaws
 pub mod Tab
