@@ -1,0 +1,7 @@
+pub mod Hex
+pub mod Lines
+pub mod Frames
+pub mod Answers
+pub mod Inside
+pub mod HexLaws
+pub mod LineLaws

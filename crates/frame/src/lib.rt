@@ -1,0 +1,209 @@
+// Lines of hexadecimal digits and the frames that they spell, apart from the state of any program.
+use cover::Kind;
+
+ghost use mathlib.Core.Path.{_≡_};
+ghost use Prim.Native.Nat.{_+_, _*_, _<_, _≤_};
+ghost use lib.ListN.{length, getD};
+ghost use Rattle.frame.specs.Hex.{DecodeHexSays};
+ghost use Rattle.frame.specs.Lines.{StartSays, FeedSays, LastSays, standing};
+ghost use Rattle.frame.specs.Frames.{DecodeSays, ReadFrameSays};
+ghost use Rattle.frame.specs.Inside.{DigitOf, DigitsIn, AllDigits, SpelledBy};
+
+// A malformed line: document 01's refusal number that only a program gives.
+pub const MALFORMED: u8 = 8;
+
+// ---- digits
+
+// The bytes that a line spells: their count, or a refusal number.
+pub enum Digits {
+    Bytes(usize),
+    Bad(u8),
+}
+
+// The value of a digit in either case, 16 for any other character.
+fn digit_of(c: u8) -> u8
+    ensures { λ r. ⌜ DigitOf c r ⌝ }
+{
+    match c {
+        48..=57 => c - 48,
+        65..=70 => c - 55,
+        97..=102 => c - 87,
+        _ => 16,
+    }
+}
+
+// Whether every character is a digit.
+fn all_digits(line: &[u8]) -> bool
+    ensures { λ r. ⌜ DigitsIn (now (line .entry)) r ⌝ }
+{
+    let mut i = 0;
+    while i < line.len() {
+        let d = digit_of(line[i]);
+        if 16 <= d {
+            return false;
+        }
+        i += 1;
+    }
+    true
+}
+
+// Two digits a byte, the high one first.
+fn fill(line: &[u8], out: &mut [u8])
+    requires { ⌜ (length (now line) ≡ length (now out) + length (now out)) × AllDigits (now line) ⌝ }
+    ensures { λ _. ⌜ SpelledBy (now (line .entry)) (now (out .exit)) ⌝ }
+{
+    let mut i = 0;
+    let mut at = 0;
+    while i < out.len() {
+        let high = digit_of(line[at]);
+        let low = digit_of(line[at + 1]);
+        out[i] = high * 16 + low;
+        i += 1;
+        at += 2;
+    }
+}
+
+// The bytes that a line spells, into the front of `out`. Nothing is written where it spells none, or more than there is room for.
+pub fn decode_hex(line: &[u8], out: &mut [u8]) -> Digits
+    ensures { λ r. ⌜ DecodeHexSays (now (line .entry)) (now (out .entry)) r (now (out .exit)) ⌝ }
+{
+    let n = line.len() / 2;
+    if n == 0 {
+        return Digits::Bad(MALFORMED);
+    }
+    if n + n != line.len() {
+        return Digits::Bad(MALFORMED);
+    }
+    if out.len() < n {
+        return Digits::Bad(MALFORMED);
+    }
+    if all_digits(line) {
+        fill(line, &mut out[0..n]);
+        Digits::Bytes(n)
+    } else {
+        Digits::Bad(MALFORMED)
+    }
+}
+
+// ---- lines
+
+// A line as it comes in: how many bytes of it are held, whether it was longer than the room, whether its LF has come.
+pub struct Line {
+    pub held: usize,
+    pub over: bool,
+    pub ended: bool,
+}
+
+// Before the first byte of the input.
+pub fn start() -> Line
+    ensures { λ r. ⌜ StartSays r ⌝ }
+{
+    Line {
+        held: 0,
+        over: false,
+        ended: false,
+    }
+}
+
+// An ended line makes room for the next.
+fn ready(line: Line) -> Line
+    ensures { λ r. ⌜ r ≡ standing line ⌝ }
+{
+    if line.ended {
+        return start();
+    }
+    line
+}
+
+// The next byte of the input. A byte that does not fit into `text` is dropped, and the line is over-long until its LF.
+pub fn feed(line: Line, b: u8, text: &mut [u8]) -> Line
+    ensures { λ r. ⌜ FeedSays line b (now (text .entry)) r (now (text .exit)) ⌝ }
+{
+    let s = ready(line);
+    let held = s.held;
+    if b == 10 {
+        return Line {
+            held,
+            over: s.over,
+            ended: true,
+        };
+    }
+    if held < text.len() {
+        text[held] = b;
+        Line {
+            held: held + 1,
+            over: s.over,
+            ended: false,
+        }
+    } else {
+        Line {
+            held,
+            over: true,
+            ended: false,
+        }
+    }
+}
+
+// At the end of the input: whether a line is left that has no LF.
+pub fn last(line: Line) -> bool
+    ensures { λ r. ⌜ LastSays line r ⌝ }
+{
+    if line.ended {
+        return false;
+    }
+    if line.over {
+        return true;
+    }
+    0 < line.held
+}
+
+// ---- frames
+
+// A decoded frame: a request, or a refusal number.
+pub enum Frame {
+    // w, h, r, g, b
+    New(u8, u8, u8, u8, u8),
+    // y, and how many pixel bytes there are: they stand among the frame's bytes from the third on
+    Row(u8, usize),
+    // the shape and the bits of its opacity
+    Score(Kind, u32),
+    Paint(Kind, u32),
+    Bad(u8),
+}
+
+// A decoded frame with its bytes.
+pub struct Read {
+    pub frame: Frame,
+    pub bytes: [u8; 50],
+}
+
+// A shape with the bits of its opacity.
+enum Shape {
+    Of(Kind, u32),
+    Unknown,
+}
+
+// ---- answers
+
+// What a score answers; floats as their bits.
+pub struct Values {
+    pub count: u32,
+    pub change: u32,
+    pub red: u32,
+    pub green: u32,
+    pub blue: u32,
+}
+
+// What a line is answered.
+pub enum Answer {
+    // 81: a new picture
+    Made,
+    // 82: a target row
+    Set,
+    // 83
+    Scored(Values),
+    // 84, with the bits of the total after
+    Painted(Values, u64),
+    // FF and the number
+    Refused(u8),
+}
