@@ -50,7 +50,7 @@ capital-above c h =
     let k : 97 ≤ c = omega arith in
     simp (le-leb 97 c k, lt-leb c 122 h)
 
-below-or-not : (m n : ℕ) → (m < n) ⊎ (n ≤ m)
+pub below-or-not : (m n : ℕ) → (m < n) ⊎ (n ≤ m)
 below-or-not m n = ⊎-elim (λ h. inl (ltb-true m n h)) (λ h. inr (ltb-false m n h)) (true-or-false (ltb m n))
 
 -- a digit is 48 to 57 or 65 on

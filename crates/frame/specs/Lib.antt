@@ -5,3 +5,4 @@ pub mod Answers
 pub mod Inside
 pub mod HexLaws
 pub mod LineLaws
+pub mod FrameLaws

@@ -2,12 +2,13 @@
 use cover::Kind;
 
 ghost use mathlib.Core.Path.{_≡_};
+ghost use mathlib.Core.Logic.{_⊎_};
 ghost use Prim.Native.Nat.{_+_, _*_, _<_, _≤_};
 ghost use lib.ListN.{length, getD};
 ghost use Rattle.frame.specs.Hex.{DecodeHexSays};
 ghost use Rattle.frame.specs.Lines.{StartSays, FeedSays, LastSays, standing};
 ghost use Rattle.frame.specs.Frames.{DecodeSays, ReadFrameSays};
-ghost use Rattle.frame.specs.Inside.{DigitOf, DigitsIn, AllDigits, SpelledBy};
+ghost use Rattle.frame.specs.Inside.{DigitOf, DigitsIn, AllDigits, SpelledBy, Coordinate, OpacityIn, KindIn, ShapeFound};
 
 // A malformed line: document 01's refusal number that only a program gives.
 pub const MALFORMED: u8 = 8;
@@ -181,6 +182,164 @@ pub struct Read {
 enum Shape {
     Of(Kind, u32),
     Unknown,
+}
+
+fn wide(b: u8) -> u32
+    ensures { λ r. ⌜ (r ≡ b) × (r < 256) ⌝ }
+{
+    b as u32
+}
+
+// Two bytes, big-endian and signed.
+fn signed(high: u8, low: u8) -> i32
+    ensures { λ r. ⌜ Coordinate high low r ⌝ }
+{
+    let v = wide(high) * 256 + wide(low);
+    if v < 32768 {
+        return v as i32;
+    }
+    v as i32 - 65536
+}
+
+fn coordinate(bytes: &[u8], at: usize) -> i32
+    requires { ⌜ at + 1 < length (now bytes) ⌝ }
+    ensures { λ r. ⌜ Coordinate (getD (now (bytes .entry)) at 0) (getD (now (bytes .entry)) (at + 1) 0) r ⌝ }
+{
+    signed(bytes[at], bytes[at + 1])
+}
+
+// Four bytes, big-endian.
+fn opacity_of(bytes: &[u8]) -> u32
+    requires { ⌜ 6 ≤ length (now bytes) ⌝ }
+    ensures { λ r. ⌜ OpacityIn (now (bytes .entry)) r ⌝ }
+{
+    ((wide(bytes[2]) * 256 + wide(bytes[3])) * 256 + wide(bytes[4])) * 256 + wide(bytes[5])
+}
+
+fn circle(bytes: &[u8]) -> Kind
+    requires { ⌜ length (now bytes) ≡ 12 ⌝ }
+    ensures { λ r. ⌜ KindIn (now (bytes .entry)) 1 r ⌝ }
+{
+    Kind::Circle(
+        coordinate(bytes, 6),
+        coordinate(bytes, 8),
+        coordinate(bytes, 10),
+    )
+}
+
+fn triangle(bytes: &[u8]) -> Kind
+    requires { ⌜ length (now bytes) ≡ 18 ⌝ }
+    ensures { λ r. ⌜ KindIn (now (bytes .entry)) 2 r ⌝ }
+{
+    Kind::Triangle(
+        coordinate(bytes, 6),
+        coordinate(bytes, 8),
+        coordinate(bytes, 10),
+        coordinate(bytes, 12),
+        coordinate(bytes, 14),
+        coordinate(bytes, 16),
+    )
+}
+
+fn quad(bytes: &[u8]) -> Kind
+    requires { ⌜ length (now bytes) ≡ 22 ⌝ }
+    ensures { λ r. ⌜ KindIn (now (bytes .entry)) 3 r ⌝ }
+{
+    Kind::Quad(
+        coordinate(bytes, 6),
+        coordinate(bytes, 8),
+        coordinate(bytes, 10),
+        coordinate(bytes, 12),
+        coordinate(bytes, 14),
+        coordinate(bytes, 16),
+        coordinate(bytes, 18),
+        coordinate(bytes, 20),
+    )
+}
+
+// A frame's kind, opacity and coordinates: all bytes after its number.
+fn shape_of(bytes: &[u8]) -> Shape
+    ensures { λ r. ⌜ ShapeFound (now (bytes .entry)) r ⌝ }
+{
+    let n = bytes.len();
+    if n < 6 {
+        return Shape::Unknown;
+    }
+    let kind = bytes[1];
+    if kind == 1 {
+        if n == 12 {
+            return Shape::Of(circle(bytes), opacity_of(bytes));
+        }
+        return Shape::Unknown;
+    }
+    if kind == 2 {
+        if n == 18 {
+            return Shape::Of(triangle(bytes), opacity_of(bytes));
+        }
+        return Shape::Unknown;
+    }
+    if kind == 3 {
+        if n == 22 {
+            return Shape::Of(quad(bytes), opacity_of(bytes));
+        }
+        return Shape::Unknown;
+    }
+    Shape::Unknown
+}
+
+fn decode_new(bytes: &[u8]) -> Frame
+    requires { ⌜ (0 < length (now bytes)) × (getD (now bytes) 0 0 ≡ 1) ⌝ }
+    ensures { λ r. ⌜ DecodeSays (now (bytes .entry)) r ⌝ }
+{
+    if bytes.len() == 6 {
+        Frame::New(bytes[1], bytes[2], bytes[3], bytes[4], bytes[5])
+    } else {
+        Frame::Bad(MALFORMED)
+    }
+}
+
+fn decode_row(bytes: &[u8]) -> Frame
+    requires { ⌜ (0 < length (now bytes)) × (getD (now bytes) 0 0 ≡ 2) ⌝ }
+    ensures { λ r. ⌜ DecodeSays (now (bytes .entry)) r ⌝ }
+{
+    let n = bytes.len();
+    if n < 2 {
+        return Frame::Bad(MALFORMED);
+    }
+    if 50 < n {
+        return Frame::Bad(MALFORMED);
+    }
+    Frame::Row(bytes[1], n - 2)
+}
+
+// 03 scores a shape and 04 paints it.
+fn decode_shape(bytes: &[u8]) -> Frame
+    requires { ⌜ (0 < length (now bytes)) × ((getD (now bytes) 0 0 ≡ 3) ⊎ (getD (now bytes) 0 0 ≡ 4)) ⌝ }
+    ensures { λ r. ⌜ DecodeSays (now (bytes .entry)) r ⌝ }
+{
+    let Shape::Of(kind, opacity) = shape_of(bytes) else {
+        return Frame::Bad(MALFORMED);
+    };
+    if bytes[0] == 3 {
+        return Frame::Score(kind, opacity);
+    }
+    Frame::Paint(kind, opacity)
+}
+
+// The request that bytes ask for.
+pub fn decode(bytes: &[u8]) -> Frame
+    ensures { λ r. ⌜ DecodeSays (now (bytes .entry)) r ⌝ }
+{
+    if bytes.len() == 0 {
+        return Frame::Bad(MALFORMED);
+    }
+    let first = bytes[0];
+    match first {
+        1 => decode_new(bytes),
+        2 => decode_row(bytes),
+        3 | 4 => decode_shape(bytes),
+        _ => Frame::Bad(MALFORMED),
+    }
 }
 
 // ---- answers
