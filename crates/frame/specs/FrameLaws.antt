@@ -10,7 +10,10 @@ use lib.Arith.{mod-mul}
 use lib.Pow.{pow-pos}
 use lib.Dec.{ltb, eqb}
 use borrow.Author.Tests.{lt-ltb, le-ltb}
-use lib.IntN.{ℤ, pos, negsuc}
+use lib.IntN.{ℤ, pos, negsuc, _-ℤ_}
+use mir.Syntax.{w32}
+use mir.Val.{toZ, ofZ, SFits}
+use mir.ValLaws.{toZ-pos, toZ-ofZ}
 use lib.ListN.{length, take, drop, getD, length-append, length-drop, drop-of-length-le}
 use lib.Seq.{drop-cons, getD-drop}
 use Rattle.cover.specs.declared.Kind.{Kind}
@@ -20,7 +23,9 @@ use Rattle.frame.specs.declared.Frame.{Frame}
 use Rattle.frame.specs.Hex.{Each, Byte}
 use Rattle.frame.specs.HexLaws.{each-of}
 use Rattle.frame.specs.Frames.{big, twos, coordinates, Short, Request, new, row, score, paint, number, shape, frame, Shaped, Fitting, Asks, decoded, DecodeSays}
-use Rattle.frame.specs.Inside.{Coordinate, Held, KindIn, OpacityIn, ShapeIn}
+use Rattle.frame.specs.declared.Shape.{Shape}
+use Rattle.frame.specs.declared.Shape.the-variants.{Of, Unknown}
+use Rattle.frame.specs.Inside.{Coordinate, Held, KindIn, OpacityIn, ShapeIn, ShapeFound}
 
 -- ---- big-endian numbers
 -- the number that bytes are the digits of
@@ -265,8 +270,56 @@ module _ (bytes : List ℕ) where
   no-row e l (score k o) a = omega (arith, first (score k o) a)
   no-row e l (paint k o) a = omega (arith, first (paint k o) a)
 
-  pub no-shape : (getD bytes 0 0 ≡ 3) ⊎ (getD bytes 0 0 ≡ 4) → ((k : Kind) (o : ℕ) → ShapeIn bytes k o → ⊥) → (q : Request) → Asks bytes q → ⊥
-  no-shape e f (new w h r g b) a = ⊎-elim (λ p. omega (arith, first (new w h r g b) a)) (λ p. omega (arith, first (new w h r g b) a)) e
-  no-shape e f (row y pixels) a = ⊎-elim (λ p. omega (arith, first (row y pixels) a)) (λ p. omega (arith, first (row y pixels) a)) e
-  no-shape e f (score k o) a = f k o (record { shaped = a .fitting; same = ap (drop 1) (a .same) })
-  no-shape e f (paint k o) a = f k o (record { shaped = a .fitting; same = ap (drop 1) (a .same) })
+  pub no-shape : 3 ≤ getD bytes 0 0 → ((k : Kind) (o : ℕ) → ShapeIn bytes k o → ⊥) → (q : Request) → Asks bytes q → ⊥
+  no-shape l f (new w h r g b) a = omega (arith, first (new w h r g b) a)
+  no-shape l f (row y pixels) a = omega (arith, first (row y pixels) a)
+  no-shape l f (score k o) a = f k o (record { shaped = a .fitting; same = ap (drop 1) (a .same) })
+  no-shape l f (paint k o) a = f k o (record { shaped = a .fitting; same = ap (drop 1) (a .same) })
+
+-- ---- numbers from their bytes
+pub four-bytes : (a b c d : ℕ) → a < 256 → b < 256 → c < 256 → d < 256 → big 4 (((a * 256 + b) * 256 + c) * 256 + d) ≡ a ∷ b ∷ c ∷ d ∷ []
+four-bytes a b c d ha hb hc hd =
+    let v : ℕ = ((a * 256 + b) * 256 + c) * 256 + d in
+    let p : v / 16777216 % 256 ≡ a = omega arith in
+    let q : v / 65536 % 256 ≡ b = omega arith in
+    let r : v / 256 % 256 ≡ c = omega arith in
+    let s : v / 1 % 256 ≡ d = omega arith in
+    cc
+
+two-bytes : (h l : ℕ) → h < 256 → l < 256 → big 2 (h * 256 + l) ≡ h ∷ l ∷ []
+two-bytes h l hh hl =
+    let p : (h * 256 + l) / 256 % 256 ≡ h = omega arith in
+    let q : (h * 256 + l) / 1 % 256 ≡ l = omega arith in
+    cc
+
+module _ (h l : ℕ) (hh : h < 256) (hl : l < 256) where
+  pub coordinate-low : h * 256 + l < 32768 → Coordinate h l (toZ w32 (h * 256 + l))
+  coordinate-low b = rw (toZ-pos w32 (h * 256 + l) (omega arith)) (record { short = b; two = two-bytes h l hh hl })
+
+  less : toZ w32 (h * 256 + l) -ℤ pos 65536 ≡ negsuc (65535 - (h * 256 + l))
+  less =
+      let e : 65536 - suc (h * 256 + l) ≡ 65535 - (h * 256 + l) = omega arith in
+      ap (λ z. z -ℤ pos 65536) (toZ-pos w32 (h * 256 + l) (omega arith))
+      ∙ ap (λ t. cond t (negsuc (65536 - suc (h * 256 + l))) (pos (h * 256 + l - 65536))) (lt-ltb (h * 256 + l) 65536 (omega arith))
+      ∙ ap negsuc e
+
+  pub less-fits : SFits w32 (toZ w32 (h * 256 + l) -ℤ pos 65536)
+  less-fits = rw less (record { sfits = omega arith })
+
+  pub coordinate-high : 32768 ≤ h * 256 + l → Coordinate h l (toZ w32 (ofZ w32 (toZ w32 (h * 256 + l) -ℤ pos 65536)))
+  coordinate-high b =
+      let back : 65535 - (65535 - (h * 256 + l)) ≡ h * 256 + l = omega arith in
+      rw (toZ-ofZ w32 (toZ w32 (h * 256 + l) -ℤ pos 65536) less-fits, less)
+      (record { short = omega arith; two = ap (big 2) back ∙ two-bytes h l hh hl })
+
+-- ---- a shape that was looked for
+pub shape-some : {bytes : List ℕ} {r : Shape} (k : Kind) (o : ℕ) → ShapeFound bytes r → r ≡ Of k o → ShapeIn bytes k o
+shape-some {bytes} k o (ShapeFound.found j p s e) f =
+    let a : j ≡ k = cc in
+    let b : p ≡ o = cc in
+    rw (a, b) at s
+shape-some k o (ShapeFound.unknown n e) f = let z : _≡_ {A = ℕ} 0 1 = cc in absurd (omega arith)
+
+pub shape-none : {bytes : List ℕ} {r : Shape} → ShapeFound bytes r → r ≡ Unknown → (k : Kind) (o : ℕ) → ShapeIn bytes k o → ⊥
+shape-none (ShapeFound.found j p s e) f = let z : _≡_ {A = ℕ} 0 1 = cc in absurd (omega arith)
+shape-none (ShapeFound.unknown n e) f = n

@@ -2,7 +2,6 @@
 use cover::Kind;
 
 ghost use mathlib.Core.Path.{_≡_};
-ghost use mathlib.Core.Logic.{_⊎_};
 ghost use Prim.Native.Nat.{_+_, _*_, _<_, _≤_};
 ghost use lib.ListN.{length, getD};
 ghost use Rattle.frame.specs.Hex.{DecodeHexSays};
@@ -314,7 +313,7 @@ fn decode_row(bytes: &[u8]) -> Frame
 
 // 03 scores a shape and 04 paints it.
 fn decode_shape(bytes: &[u8]) -> Frame
-    requires { ⌜ (0 < length (now bytes)) × ((getD (now bytes) 0 0 ≡ 3) ⊎ (getD (now bytes) 0 0 ≡ 4)) ⌝ }
+    requires { ⌜ (0 < length (now bytes)) × (3 ≤ getD (now bytes) 0 0) × (getD (now bytes) 0 0 ≤ 4) ⌝ }
     ensures { λ r. ⌜ DecodeSays (now (bytes .entry)) r ⌝ }
 {
     let Shape::Of(kind, opacity) = shape_of(bytes) else {
