@@ -1,7 +1,9 @@
 -- Rules: document 01, "The program": the answers, as capital digits and LF.
 use mathlib.Core.Path.{_≡_}
 use mathlib.Core.List.{List, [], _∷_, _++_}
+use mathlib.Core.Bool.{cond}
 use Prim.Native.Nat.{ℕ}
+use lib.Dec.{leb}
 use lib.ListN.{length}
 use Rattle.frame.specs.declared.Values.{Values}
 use Rattle.frame.specs.declared.Answer.{Answer}
@@ -21,9 +23,17 @@ answerBytes (Scored v) = 0x83 ∷ fields v
 answerBytes (Painted v total) = 0x84 ∷ fields v ++ big 8 total
 answerBytes (Refused n) = 0xff ∷ n ∷ []
 
-abbrev pub answerLine : Answer → List ℕ
-answerLine a = hexOf (answerBytes a) ++ lf ∷ []
+-- digits and LF
+abbrev pub lineOf : List ℕ → List ℕ
+lineOf bytes = hexOf bytes ++ lf ∷ []
 
--- the line stands at the front of the lent buffer, and what stood after it stays
+-- a line is written whole or, where the lent buffer has no room for it, not at all
+abbrev pub fitted : List ℕ → List ℕ → List ℕ
+fitted old line = cond (leb (length line) (length old)) line []
+
+-- the line stands at the front of the buffer, and what stood after it stays
+abbrev pub Written : List ℕ → List ℕ → ℕ → List ℕ → Type 0
+Written line old r after = (r ≡ length (fitted old line)) × (after ≡ over old (fitted old line))
+
 abbrev pub WriteAnswerSays : Answer → List ℕ → ℕ → List ℕ → Type 0
-WriteAnswerSays a old r after = (r ≡ length (answerLine a)) × (after ≡ over old (answerLine a))
+WriteAnswerSays a old r after = Written (lineOf (answerBytes a)) old r after

@@ -140,11 +140,11 @@ DecodeSays-unique bytes r s (DecodeSays.refused n e) (DecodeSays.asked q b f) = 
 DecodeSays-unique bytes r s (DecodeSays.refused n e) (DecodeSays.refused m f) = e ∙ sym f
 
 -- ---- bytes by their places
-abbrev from : List ℕ → ℕ → ℕ → List ℕ
+abbrev pub from : List ℕ → ℕ → ℕ → List ℕ
 from bytes i zero = []
 from bytes i (suc n) = getD bytes i 0 ∷ from bytes (i + 1) n
 
-from-place : (bytes : List ℕ) (i n : ℕ) → i + n ≤ length bytes → drop i bytes ≡ from bytes i n ++ drop (i + n) bytes
+pub from-place : (bytes : List ℕ) (i n : ℕ) → i + n ≤ length bytes → drop i bytes ≡ from bytes i n ++ drop (i + n) bytes
 from-place bytes i zero h = ap (λ m. drop m bytes) (sym (add-zero i))
 from-place bytes i (suc n) h =
     let p : suc i ≡ i + 1 = omega arith in

@@ -6,3 +6,4 @@ pub mod Inside
 pub mod HexLaws
 pub mod LineLaws
 pub mod FrameLaws
+pub mod AnswerLaws

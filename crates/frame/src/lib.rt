@@ -2,11 +2,13 @@
 use cover::Kind;
 
 ghost use mathlib.Core.Path.{_≡_};
-ghost use Prim.Native.Nat.{_+_, _*_, _<_, _≤_};
-ghost use lib.ListN.{length, getD};
-ghost use Rattle.frame.specs.Hex.{DecodeHexSays};
+ghost use mathlib.Core.List.{_∷_, _++_};
+ghost use Prim.Native.Nat.{_+_, _%_, _<_, _≤_};
+ghost use lib.ListN.{length, getD, replicate};
+ghost use Rattle.frame.specs.Hex.{DecodeHexSays, digit};
 ghost use Rattle.frame.specs.Lines.{StartSays, FeedSays, LastSays, standing};
-ghost use Rattle.frame.specs.Frames.{DecodeSays, ReadFrameSays};
+ghost use Rattle.frame.specs.Frames.{DecodeSays, ReadFrameSays, unread, big};
+ghost use Rattle.frame.specs.Answers.{fields, lineOf, Written, WriteAnswerSays};
 ghost use Rattle.frame.specs.Inside.{DigitOf, DigitsIn, AllDigits, SpelledBy, Coordinate, OpacityIn, KindIn, ShapeFound};
 
 // A malformed line: document 01's refusal number that only a program gives.
@@ -341,6 +343,31 @@ pub fn decode(bytes: &[u8]) -> Frame
     }
 }
 
+// A refused line.
+fn unread() -> Read
+    ensures { λ r. ⌜ r ≡ unread ⌝ }
+{
+    Read {
+        frame: Frame::Bad(MALFORMED),
+        bytes: [0u8; 50],
+    }
+}
+
+// The request that a line asks for.
+pub fn read_frame(line: &[u8]) -> Read
+    ensures { λ r. ⌜ ReadFrameSays (now (line .entry)) r ⌝ }
+{
+    let mut bytes = [0u8; 50];
+    let Digits::Bytes(n) = decode_hex(line, &mut bytes) else {
+        return unread();
+    };
+    let frame = decode(&bytes[0..n]);
+    if let Frame::Bad(_) = frame {
+        return unread();
+    }
+    Read { frame, bytes }
+}
+
 // ---- answers
 
 // What a score answers; floats as their bits.
@@ -364,4 +391,65 @@ pub enum Answer {
     Painted(Values, u64),
     // FF and the number
     Refused(u8),
+}
+
+// The character of a digit.
+fn character(n: u8) -> u8
+    requires { ⌜ n < 16 ⌝ }
+    ensures { λ r. ⌜ r ≡ digit n ⌝ }
+{
+    if n < 10 { 48 + n } else { 55 + n }
+}
+
+// A number, big-endian, into all of `out`.
+fn put_big(out: &mut [u8], v: u64)
+    ensures { λ _. ⌜ now (out .exit) ≡ big (length (now (out .entry))) v ⌝ }
+{
+    let mut rest = v;
+    let mut i = out.len();
+    while 0 < i {
+        i -= 1;
+        out[i] = low_byte(rest);
+        rest = rest / 256;
+    }
+}
+
+fn low_byte(v: u64) -> u8
+    ensures { λ r. ⌜ r ≡ v % 256 ⌝ }
+{
+    (v % 256) as u8
+}
+
+// The bytes of an answer that begins with a score's values, and room for a total.
+fn begun(first: u8, v: Values) -> [u8; 29]
+    ensures { λ r. ⌜ r ≡ first ∷ fields v ++ replicate 8 0 ⌝ }
+{
+    let mut bytes = [0u8; 29];
+    bytes[0] = first;
+    put_big(&mut bytes[1..5], v.count as u64);
+    put_big(&mut bytes[5..9], v.change as u64);
+    put_big(&mut bytes[9..13], v.red as u64);
+    put_big(&mut bytes[13..17], v.green as u64);
+    put_big(&mut bytes[17..21], v.blue as u64);
+    bytes
+}
+
+// Digits and LF into the front of `out`. Where there is no room for them, nothing is written and the count is 0.
+fn write_line(bytes: &[u8], out: &mut [u8]) -> usize
+    ensures { λ r. ⌜ Written (lineOf (now (bytes .entry))) (now (out .entry)) r (now (out .exit)) ⌝ }
+{
+    if out.len() < bytes.len() + bytes.len() + 1 {
+        return 0;
+    }
+    let mut i = 0;
+    let mut at = 0;
+    while i < bytes.len() {
+        let b = bytes[i];
+        out[at] = character(b / 16);
+        out[at + 1] = character(b % 16);
+        i += 1;
+        at += 2;
+    }
+    out[at] = 10;
+    at + 1
 }
