@@ -28,12 +28,13 @@ abbrev pub lineOf : List ℕ → List ℕ
 lineOf bytes = hexOf bytes ++ lf ∷ []
 
 -- a line is written whole or, where the lent buffer has no room for it, not at all
-abbrev pub fitted : List ℕ → List ℕ → List ℕ
+unfoldable pub fitted : List ℕ → List ℕ → List ℕ
 fitted old line = cond (leb (length line) (length old)) line []
 
 -- the line stands at the front of the buffer, and what stood after it stays
-abbrev pub Written : List ℕ → List ℕ → ℕ → List ℕ → Type 0
-Written line old r after = (r ≡ length (fitted old line)) × (after ≡ over old (fitted old line))
+pub record Written (line old : List ℕ) (r : ℕ) (after : List ℕ) : Type 0 where
+  pub count : r ≡ length (fitted old line)
+  pub text : after ≡ over old (fitted old line)
 
 abbrev pub WriteAnswerSays : Answer → List ℕ → ℕ → List ℕ → Type 0
 WriteAnswerSays a old r after = Written (lineOf (answerBytes a)) old r after

@@ -2,9 +2,9 @@
 use cover::Kind;
 
 ghost use mathlib.Core.Path.{_≡_};
-ghost use mathlib.Core.List.{_∷_, _++_};
+ghost use mathlib.Core.List.{[], _∷_, _++_};
 ghost use Prim.Native.Nat.{_+_, _%_, _<_, _≤_};
-ghost use lib.ListN.{length, getD, replicate};
+ghost use lib.ListN.{length, getD, take, drop, replicate};
 ghost use Rattle.frame.specs.Hex.{DecodeHexSays, digit};
 ghost use Rattle.frame.specs.Lines.{StartSays, FeedSays, LastSays, standing};
 ghost use Rattle.frame.specs.Frames.{DecodeSays, ReadFrameSays, unread, big};
@@ -420,17 +420,26 @@ fn low_byte(v: u64) -> u8
     (v % 256) as u8
 }
 
+// A number in n bytes, big-endian, from a place on.
+fn put_at(out: &mut [u8], at: usize, n: usize, v: u64)
+    requires { ⌜ at + n ≤ length (now out) ⌝ }
+    ensures { λ _. ⌜ now (out .exit) ≡ take at (now (out .entry)) ++ (big n v ++ drop (at + n) (now (out .entry))) ⌝ }
+{
+    let end = at + n;
+    put_big(&mut out[at..end], v);
+}
+
 // The bytes of an answer that begins with a score's values, and room for a total.
 fn begun(first: u8, v: Values) -> [u8; 29]
     ensures { λ r. ⌜ r ≡ first ∷ fields v ++ replicate 8 0 ⌝ }
 {
     let mut bytes = [0u8; 29];
     bytes[0] = first;
-    put_big(&mut bytes[1..5], v.count as u64);
-    put_big(&mut bytes[5..9], v.change as u64);
-    put_big(&mut bytes[9..13], v.red as u64);
-    put_big(&mut bytes[13..17], v.green as u64);
-    put_big(&mut bytes[17..21], v.blue as u64);
+    put_at(&mut bytes, 1, 4, v.count as u64);
+    put_at(&mut bytes, 5, 4, v.change as u64);
+    put_at(&mut bytes, 9, 4, v.red as u64);
+    put_at(&mut bytes, 13, 4, v.green as u64);
+    put_at(&mut bytes, 17, 4, v.blue as u64);
     bytes
 }
 
@@ -452,4 +461,46 @@ fn write_line(bytes: &[u8], out: &mut [u8]) -> usize
     }
     out[at] = 10;
     at + 1
+}
+
+fn write_one(first: u8, out: &mut [u8]) -> usize
+    ensures { λ r. ⌜ Written (lineOf (first ∷ [])) (now (out .entry)) r (now (out .exit)) ⌝ }
+{
+    let bytes = [first];
+    write_line(&bytes, out)
+}
+
+fn write_scored(v: Values, out: &mut [u8]) -> usize
+    ensures { λ r. ⌜ WriteAnswerSays (Answer.Scored v) (now (out .entry)) r (now (out .exit)) ⌝ }
+{
+    let bytes = begun(0x83, v);
+    write_line(&bytes[0..21], out)
+}
+
+fn write_painted(v: Values, total: u64, out: &mut [u8]) -> usize
+    ensures { λ r. ⌜ WriteAnswerSays (Answer.Painted v total) (now (out .entry)) r (now (out .exit)) ⌝ }
+{
+    let mut bytes = begun(0x84, v);
+    put_at(&mut bytes, 21, 8, total);
+    write_line(&bytes, out)
+}
+
+fn write_refused(number: u8, out: &mut [u8]) -> usize
+    ensures { λ r. ⌜ WriteAnswerSays (Answer.Refused number) (now (out .entry)) r (now (out .exit)) ⌝ }
+{
+    let bytes = [0xff, number];
+    write_line(&bytes, out)
+}
+
+// An answer's line, into the front of `out`: its count of bytes, or 0 where there is no room for it.
+pub fn write_answer(a: Answer, out: &mut [u8]) -> usize
+    ensures { λ r. ⌜ WriteAnswerSays a (now (out .entry)) r (now (out .exit)) ⌝ }
+{
+    match a {
+        Answer::Made => write_one(0x81, out),
+        Answer::Set => write_one(0x82, out),
+        Answer::Scored(v) => write_scored(v, out),
+        Answer::Painted(v, total) => write_painted(v, total, out),
+        Answer::Refused(number) => write_refused(number, out),
+    }
 }
