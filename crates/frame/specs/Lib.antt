@@ -7,3 +7,4 @@ pub mod HexLaws
 pub mod LineLaws
 pub mod FrameLaws
 pub mod AnswerLaws
+pub mod ReadLaws

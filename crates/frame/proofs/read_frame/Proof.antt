@@ -1,3 +1,8 @@
+use mathlib.Core.Logic.{⊎-elim}
+use Rattle.frame.specs.ReadLaws.{spelled, not-spelled, read-not-spelled, read-asked, read-refused}
+use Rattle.frame.specs.Frames.{ReadFrameSays}
+use mathlib.Core.Path.{sym, subst}
+use Prim.Native.Nat.{ℕ}
 use native.Mathlib.Omega.{arith}
 use borrow.Author.Needs.{needs}
 use Rattle.frame.proofs.read_frame.Statement.{statement}
@@ -30,7 +35,9 @@ unread-requires c κs = search needs
 
 -- src/lib.rt:362:9
 returns : tie.Need-returns
-returns c = search needs
+returns c =
+    let n = not-spelled _ (c .before .before .before .before .decode-hex .ensures) (c .before .enum-told .given .1) in
+    subst (ReadFrameSays _) (sym (c .unread .ensures)) (read-not-spelled (c .before .before .before .before .before .before .before .args .line .now) n)
 
 -- src/lib.rt:364:24
 sub-decode : tie.Need-sub-decode
@@ -42,7 +49,9 @@ part-decode-start c = search needs
 
 -- src/lib.rt:364:24
 part-decode-end : tie.Need-part-decode-end
-part-decode-end c = search needs
+part-decode-end c =
+    let s = spelled _ (c .before .before .before .before .before .decode-hex .ensures) (c .before .before .n .given .1) in
+    omega (arith, s .room, c .before .before .before .before .before .decode-hex .kept)
 
 -- src/lib.rt:364:9
 decode-requires : tie.Need-decode-requires
@@ -58,11 +67,18 @@ unread-requires-2 c κs = search needs
 
 -- src/lib.rt:366:9
 returns-2 : tie.Need-returns-2
-returns-2 c = search needs
+returns-2 c =
+    let s = spelled _ (c .before .before .before .before .before .before .before .before .before .before .decode-hex .ensures) (c .before .before .before .before .before .before .before .n .given .1) in
+    subst (ReadFrameSays _) (sym (c .unread2 .ensures)) (read-refused s _ _ (c .before .before .before .decode .ensures) (c .before .enum-told2 .given .1))
 
 -- src/lib.rt:357:1
 returns-3 : tie.Need-returns-3
-returns-3 c = search needs
+returns-3 c =
+    let s = spelled _ (c .before .before .before .before .before .before .before .before .decode-hex .ensures) (c .before .before .before .before .before .n .given .1) in
+    read-asked s _ (c .before .decode .ensures)
+    (λ e.
+    let k = rw e at (c .match2 .keys2) in
+    ⊎-elim (λ p. omega (arith, p)) (⊎-elim (λ p. omega (arith, p)) (⊎-elim (λ p. omega (arith, p)) (λ p. omega (arith, p)))) k)
 
 pub read-frame-spec : {M : Type 1} → statement M
 read-frame-spec =
