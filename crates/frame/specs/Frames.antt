@@ -10,7 +10,9 @@ use Rattle.cover.specs.Cover.{places}
 use Rattle.frame.specs.declared.Frame.{Frame}
 use Rattle.frame.specs.declared.Frame.the-variants.{New, Row, Score, Paint, Bad}
 use Rattle.frame.specs.declared.Read.{Read}
+use Rattle.frame.specs.declared.Line.{Line}
 use Rattle.frame.specs.Hex.{malformed, Each, Byte, Spells}
+use Rattle.frame.specs.Lines.{Told, whole, tooLong, heard}
 
 -- a number in n bytes, big-endian
 abbrev pub big : ℕ → ℕ → List ℕ
@@ -94,3 +96,11 @@ unread = record { frame = Bad malformed; bytes = replicate 50 0 }
 pub data ReadFrameSays (line : List ℕ) (r : Read) : Type 0 where
   asked : (q : Request) → LineAsks line q → r ≡ readAs q → ReadFrameSays line r
   refused : ((q : Request) → LineAsks line q → ⊥) → r ≡ unread → ReadFrameSays line r
+
+-- the line that a reader holds: one that was longer than its room is malformed
+abbrev pub ReadsTold : Told → Read → Type 0
+ReadsTold (whole line) r = ReadFrameSays line r
+ReadsTold tooLong r = r ≡ unread
+
+abbrev pub ReadLineSays : Line → List ℕ → Read → Type 0
+ReadLineSays line text r = ReadsTold (heard line text) r

@@ -2,7 +2,10 @@
 use mathlib.Core.Path.{_≡_, refl, sym, ap, _∙_, subst}
 use mathlib.Core.List.{List, [], _∷_, _++_}
 use Prim.Native.Nat.{ℕ, zero, suc, _+_, _-_, _<_, _≤_}
+use mathlib.Core.Bool.{true, false}
+use mathlib.Core.Logic.{⊎-elim}
 use native.Mathlib.Omega.{arith}
+use borrow.Author.Tests.{lt-ltb, le-ltb, le-leb, lt-leb}
 use native.Mathlib.Nat.{sub-zero}
 use lib.ListN.{length, take, drop, replicate}
 use lib.Seq.{take-at}
@@ -14,9 +17,11 @@ use Rattle.frame.specs.declared.Digits.the-variants as digits
 use Rattle.frame.specs.declared.Frame.{Frame}
 use Rattle.frame.specs.declared.Frame.the-variants.{Bad}
 use Rattle.frame.specs.declared.Read.{Read}
+use Rattle.frame.specs.declared.Line.{Line}
 use Rattle.frame.specs.Hex.{malformed, Spells, over, DecodeHexSays}
-use Rattle.frame.specs.HexLaws.{spells-unique}
-use Rattle.frame.specs.Frames.{Request, new, row, score, paint, coordinates, frame, decoded, Fitting, Asks, LineAsks, DecodeSays, readAs, unread, ReadFrameSays}
+use Rattle.frame.specs.HexLaws.{below-or-not, spells-unique, spells-length}
+use Rattle.frame.specs.Lines.{Told, whole, tooLong, told, heard}
+use Rattle.frame.specs.Frames.{Request, new, row, score, paint, coordinates, frame, decoded, Fitting, Asks, LineAsks, DecodeSays, readAs, unread, ReadFrameSays, ReadsTold, ReadLineSays}
 use Rattle.frame.specs.FrameLaws.{frame-injective, coordinates-length}
 
 pub line-asks-unique : {line : List ℕ} {p q : Request} → LineAsks line p → LineAsks line q → p ≡ q
@@ -105,3 +110,34 @@ module _ {line after : List ℕ} {n : ℕ} (s : Spelled line (replicate 50 0) af
       not-bad (row y pixels) e = let z : _≡_ {A = ℕ} 0 1 = cc in absurd (omega arith)
       not-bad (score k o) e = let z : _≡_ {A = ℕ} 0 1 = cc in absurd (omega arith)
       not-bad (paint k o) e = let z : _≡_ {A = ℕ} 0 1 = cc in absurd (omega arith)
+
+-- ---- the line that a reader holds
+told-unique : (t : Told) (r s : Read) → ReadsTold t r → ReadsTold t s → r ≡ s
+told-unique (whole line) r s p q = ReadFrameSays-unique line r s p q
+told-unique tooLong r s p q = p ∙ sym q
+
+pub ReadLineSays-unique : (line : Line) (text : List ℕ) (r s : Read) → ReadLineSays line text r → ReadLineSays line text s → r ≡ s
+ReadLineSays-unique line text r s p q = told-unique (heard line text) r s p q
+
+pub read-over : (line : Line) (text : List ℕ) (r : Read) → line .over ≡ true → r ≡ unread → ReadLineSays line text r
+unfolding heard
+read-over line text r e f = simp e f
+
+pub read-past : (line : Line) (text : List ℕ) (r : Read) → line .over ≡ false → length text < line .held → r ≡ unread → ReadLineSays line text r
+unfolding heard
+read-past line text r e h f = simp (e, lt-ltb (length text) (line .held) h) f
+
+pub read-held : (line : Line) (text : List ℕ) (r : Read) → line .over ≡ false → line .held ≤ length text → ReadFrameSays (take (line .held - 0) text) r
+    → ReadLineSays line text r
+unfolding heard
+read-held line text r e h f = simp (e, le-ltb (length text) (line .held) h) (rw sub-zero at f)
+
+-- with room for 100 digits, a line that is told is read as that line, too long or not
+pub told-reads : (room : ℕ) (line : List ℕ) (r : Read) → 100 ≤ room → ReadsTold (told room line) r → ReadFrameSays line r
+told-reads room line r h t =
+    ⊎-elim
+    (λ (l : room < length line).
+    let e : r ≡ unread = simp (lt-leb (length line) room l) at t in
+    ReadFrameSays.refused (λ q a. omega (arith, spells-length (a .spells), frame-most q (a .fitting))) e)
+    (λ (l : length line ≤ room). simp (le-leb (length line) room l) at t)
+    (below-or-not room (length line))

@@ -7,7 +7,7 @@ ghost use Prim.Native.Nat.{_+_, _%_, _<_, _≤_};
 ghost use lib.ListN.{length, getD, take, drop, replicate};
 ghost use Rattle.frame.specs.Hex.{DecodeHexSays, digit};
 ghost use Rattle.frame.specs.Lines.{StartSays, FeedSays, LastSays, standing};
-ghost use Rattle.frame.specs.Frames.{DecodeSays, ReadFrameSays, unread, big};
+ghost use Rattle.frame.specs.Frames.{DecodeSays, ReadFrameSays, ReadLineSays, unread, big};
 ghost use Rattle.frame.specs.Answers.{fields, lineOf, Written, WriteAnswerSays};
 ghost use Rattle.frame.specs.Inside.{DigitOf, DigitsIn, AllDigits, SpelledBy, Coordinate, OpacityIn, KindIn, ShapeFound};
 
@@ -366,6 +366,20 @@ pub fn read_frame(line: &[u8]) -> Read
         return unread();
     }
     Read { frame, bytes }
+}
+
+// The request that the line in `text` asks for, as `feed` left it there.
+pub fn read_line(line: Line, text: &[u8]) -> Read
+    ensures { λ r. ⌜ ReadLineSays line (now (text .entry)) r ⌝ }
+{
+    let held = line.held;
+    if line.over {
+        return unread();
+    }
+    if text.len() < held {
+        return unread();
+    }
+    read_frame(&text[0..held])
 }
 
 // ---- answers
