@@ -1,3 +1,9 @@
 pub mod Cover
 pub mod Answers
+pub mod Steps
 pub mod AnswerLaws
+pub mod CoverLaws
+pub mod StepLaws
+pub mod Figures
+pub mod ReachRows
+pub mod ReachRowsLaws

@@ -27,3 +27,14 @@ pub mod Index
 pub mod Fill
 pub mod Every
 pub mod EveryLaws
+-- Lists of calls.
+pub mod Calls
+pub mod CallLaws
+-- Ordered sums, and tables of them.
+pub mod F64
+pub mod Before
+pub mod BeforeLaws
+pub mod PixelSums
+pub mod PixelSumLaws
+pub mod RowSums
+pub mod RowSumLaws

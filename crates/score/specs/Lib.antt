@@ -1,0 +1,10 @@
+pub mod Finalize
+pub mod FinalizeLaws
+pub mod Levels
+pub mod LevelLaws
+pub mod Sweep
+pub mod SweepLaws
+pub mod Swept
+pub mod Scoring
+pub mod RunSums
+pub mod ScoringLaws
