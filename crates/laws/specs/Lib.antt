@@ -16,6 +16,7 @@ pub mod EndsLaws
 pub mod Runs
 pub mod Blank
 pub mod Answer
+pub mod AnswerLaws
 pub mod Holds
 pub mod RunLaws
 pub mod RunPlaces
