@@ -1,28 +1,28 @@
 -- Laws: two requests do not share a frame; what the parts of a frame give, and when no request fits.
-use mathlib.Core.Path.{_≡_, refl, sym, ap, _∙_, subst}
-use mathlib.Core.Bool.{Bool, true, false, cond}
-use mathlib.Core.List.{List, [], _∷_, _++_, head-eq-of-cons-eq, tail-eq-of-cons-eq}
+use mathlib.Core.Path.{_≡_, refl, sym, ap, _∙_}
+use mathlib.Core.Bool.{cond}
+use mathlib.Core.List.{List, [], _∷_, _++_}
 use mathlib.Core.Logic.{_⊎_, inl, inr, ⊎-elim}
 use Prim.Native.Nat.{ℕ, zero, suc, _+_, _-_, _*_, _/_, _%_, _^_, _<_, _≤_}
 use native.Mathlib.Omega.{arith}
-use native.Mathlib.Nat.{mod-eq-of-lt, one-le-pow, pow-succ', add-zero}
+use native.Mathlib.Nat.{mod-eq-of-lt, one-le-pow, pow-succ'}
 use lib.Arith.{mod-mul}
-use lib.Pow.{pow-pos}
 use lib.Dec.{ltb, eqb}
 use borrow.Author.Tests.{lt-ltb, le-ltb}
 use lib.IntN.{ℤ, pos, negsuc, _-ℤ_}
 use mir.Syntax.{w32}
 use mir.Val.{toZ, ofZ, SFits}
 use mir.ValLaws.{toZ-pos, toZ-ofZ}
-use lib.ListN.{length, take, drop, getD, length-append, length-drop, drop-of-length-le}
-use lib.Seq.{drop-cons, getD-drop}
+use lib.ListN.{length, take, drop, getD, length-drop, drop-of-length-le}
+use lib.Seq.{getD-drop}
 use Rattle.cover.specs.declared.Kind.{Kind}
 use Rattle.cover.specs.declared.Kind.the-variants.{Circle, Triangle, Quad}
 use Rattle.cover.specs.Cover.{places}
 use Rattle.frame.specs.declared.Frame.{Frame}
-use Rattle.frame.specs.Hex.{Each, Byte}
-use Rattle.frame.specs.HexLaws.{each-of}
-use Rattle.frame.specs.Frames.{big, twos, coordinates, Short, Request, new, row, score, paint, number, shape, frame, Shaped, Fitting, Asks, decoded, DecodeSays}
+use Rattle.lines.specs.Hex.{Each, Byte}
+use Rattle.lines.specs.HexLaws.{each-of}
+use Rattle.lines.specs.PlaceLaws.{from, from-place}
+use Rattle.frame.specs.Frames.{big, twos, coordinates, Short, Request, new, row, score, paint, number, frame, Shaped, Fitting, Asks, decoded, DecodeSays}
 use Rattle.frame.specs.declared.Shape.{Shape}
 use Rattle.frame.specs.declared.Shape.the-variants.{Of, Unknown}
 use Rattle.frame.specs.Inside.{Coordinate, Held, KindIn, OpacityIn, ShapeIn, ShapeFound}
@@ -139,21 +139,6 @@ DecodeSays-unique bytes r s (DecodeSays.asked p a e) (DecodeSays.refused n f) = 
 DecodeSays-unique bytes r s (DecodeSays.refused n e) (DecodeSays.asked q b f) = absurd (n q b)
 DecodeSays-unique bytes r s (DecodeSays.refused n e) (DecodeSays.refused m f) = e ∙ sym f
 
--- ---- bytes by their places
-abbrev pub from : List ℕ → ℕ → ℕ → List ℕ
-from bytes i zero = []
-from bytes i (suc n) = getD bytes i 0 ∷ from bytes (i + 1) n
-
-pub from-place : (bytes : List ℕ) (i n : ℕ) → i + n ≤ length bytes → drop i bytes ≡ from bytes i n ++ drop (i + n) bytes
-from-place bytes i zero h = ap (λ m. drop m bytes) (sym (add-zero i))
-from-place bytes i (suc n) h =
-    let p : suc i ≡ i + 1 = omega arith in
-    let q : i + 1 + n ≡ i + suc n = omega arith in
-    drop-cons bytes i 0 (omega arith)
-    ∙ ap (λ m. getD bytes i 0 ∷ drop m bytes) p
-    ∙ ap (λ (l : List ℕ). getD bytes i 0 ∷ l) (from-place bytes (i + 1) n (omega arith))
-    ∙ ap (λ m. getD bytes i 0 ∷ from bytes (i + 1) n ++ drop m bytes) q
-
 -- ---- the parts of a shape, and when bytes have none
 -- coordinates that bytes hold up to their end
 held-coordinates : (bytes : List ℕ) (i : ℕ) (zs : List ℤ) → Held bytes i zs → length bytes ≡ i + (length zs + length zs)
@@ -190,10 +175,10 @@ module _ (bytes : List ℕ) where
       record {
         shaped = (l, held-short bytes 6 (places k) (h .held));
         same =
-          from-place bytes 1 5 six
-          ∙ ap (λ m. m ∷ getD bytes 2 0 ∷ getD bytes 3 0 ∷ getD bytes 4 0 ∷ getD bytes 5 0 ∷ drop 6 bytes) (e ∙ sym (h .named))
-          ∙ ap (λ (t : List ℕ). number k ∷ t ++ drop 6 bytes) (sym p)
-          ∙ ap (λ (t : List ℕ). number k ∷ big 4 o ++ t) (sym all);
+            from-place bytes 1 5 six
+            ∙ ap (λ m. m ∷ getD bytes 2 0 ∷ getD bytes 3 0 ∷ getD bytes 4 0 ∷ getD bytes 5 0 ∷ drop 6 bytes) (e ∙ sym (h .named))
+            ∙ ap (λ (t : List ℕ). number k ∷ t ++ drop 6 bytes) (sym p)
+            ∙ ap (λ (t : List ℕ). number k ∷ big 4 o ++ t) (sym all);
       }
 
   shape-size : (k : Kind) (o : ℕ) → ShapeIn bytes k o → length bytes ≡ 6 + (length (places k) + length (places k))
@@ -224,9 +209,9 @@ module _ (bytes : List ℕ) where
       record {
         fitting = (b 1, (b 2, (b 3, (b 4, (b 5, tt)))));
         same =
-          from-place bytes 0 6 (omega arith)
-          ∙ ap (λ (t : List ℕ). from bytes 0 6 ++ t) (drop-of-length-le bytes {i = 6} (omega arith))
-          ∙ ap (λ m. m ∷ from bytes 1 5) e;
+            from-place bytes 0 6 (omega arith)
+            ∙ ap (λ (t : List ℕ). from bytes 0 6 ++ t) (drop-of-length-le bytes {i = 6} (omega arith))
+            ∙ ap (λ m. m ∷ from bytes 1 5) e;
       }
 
   pub asks-row : 2 ≤ length bytes → length bytes ≤ 50 → getD bytes 0 0 ≡ 2 → ((k : ℕ) → getD bytes k 0 < 256)

@@ -10,9 +10,9 @@ use Rattle.cover.specs.Cover.{places}
 use Rattle.frame.specs.declared.Frame.{Frame}
 use Rattle.frame.specs.declared.Frame.the-variants.{New, Row, Score, Paint, Bad}
 use Rattle.frame.specs.declared.Read.{Read}
-use Rattle.frame.specs.declared.Line.{Line}
-use Rattle.frame.specs.Hex.{malformed, Each, Byte, Spells}
-use Rattle.frame.specs.Lines.{Told, whole, tooLong, heard}
+use Rattle.lines.specs.declared.Line.{Line}
+use Rattle.lines.specs.Hex.{malformed, Each, Byte, Spells}
+use Rattle.lines.specs.Lines.{Told, whole, tooLong, heard}
 
 -- a number in n bytes, big-endian
 abbrev pub big : ℕ → ℕ → List ℕ

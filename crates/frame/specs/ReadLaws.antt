@@ -1,6 +1,6 @@
 -- Laws: a line asks for at most one request; reading it is decoding its digits and then its bytes.
 use mathlib.Core.Path.{_≡_, refl, sym, ap, _∙_, subst}
-use mathlib.Core.List.{List, [], _∷_, _++_}
+use mathlib.Core.List.{List, _++_}
 use Prim.Native.Nat.{ℕ, zero, suc, _+_, _-_, _<_, _≤_}
 use mathlib.Core.Bool.{true, false}
 use mathlib.Core.Logic.{⊎-elim}
@@ -12,16 +12,16 @@ use lib.Seq.{take-at}
 use Rattle.cover.specs.declared.Kind.{Kind}
 use Rattle.cover.specs.declared.Kind.the-variants.{Circle, Triangle, Quad}
 use Rattle.cover.specs.Cover.{places}
-use Rattle.frame.specs.declared.Digits.{Digits}
-use Rattle.frame.specs.declared.Digits.the-variants as digits
+use Rattle.lines.specs.declared.Digits.{Digits}
+use Rattle.lines.specs.declared.Digits.the-variants as digits
 use Rattle.frame.specs.declared.Frame.{Frame}
 use Rattle.frame.specs.declared.Frame.the-variants.{Bad}
 use Rattle.frame.specs.declared.Read.{Read}
-use Rattle.frame.specs.declared.Line.{Line}
-use Rattle.frame.specs.Hex.{malformed, Spells, over, DecodeHexSays}
-use Rattle.frame.specs.HexLaws.{below-or-not, spells-unique, spells-length}
-use Rattle.frame.specs.Lines.{Told, whole, tooLong, told, heard}
-use Rattle.frame.specs.Frames.{Request, new, row, score, paint, coordinates, frame, decoded, Fitting, Asks, LineAsks, DecodeSays, readAs, unread, ReadFrameSays, ReadsTold, ReadLineSays}
+use Rattle.lines.specs.declared.Line.{Line}
+use Rattle.lines.specs.Hex.{malformed, Spells, over, DecodeHexSays}
+use Rattle.lines.specs.HexLaws.{below-or-not, spells-unique, spells-length}
+use Rattle.lines.specs.Lines.{Told, whole, tooLong, told, heard}
+use Rattle.frame.specs.Frames.{Request, new, row, score, paint, frame, decoded, Fitting, LineAsks, DecodeSays, readAs, unread, ReadFrameSays, ReadsTold, ReadLineSays}
 use Rattle.frame.specs.FrameLaws.{frame-injective, coordinates-length}
 
 pub line-asks-unique : {line : List ℕ} {p q : Request} → LineAsks line p → LineAsks line q → p ≡ q

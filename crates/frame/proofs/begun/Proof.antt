@@ -1,77 +1,57 @@
-use Rattle.frame.specs.AnswerLaws.{begun-bytes}
-use native.Mathlib.Omega.{arith}
+-- `frame::begun` meets its contract: one field after another.
 use borrow.Author.Needs.{needs}
+use Rattle.frame.specs.AnswerLaws.{begun-bytes}
 use Rattle.frame.proofs.begun.Statement.{statement}
 use Rattle.frame.proofs.begun.Tie as tie
-use Rattle.frame.proofs.begun.Reads as reads
-use Rattle.frame.proofs.begun.Lts as lts
-use Rattle.frame.proofs.put_at.Reads as put-at-reads
 
--- src/lib.rt:437:5
 array-write-bytes : tie.Need-array-write-bytes
 array-write-bytes c = search needs
 
--- src/lib.rt:438:12
 slice-aggregate-put-at : tie.Need-slice-aggregate-put-at
 slice-aggregate-put-at c = search needs
 
--- src/lib.rt:438:30
 cast-put-at : tie.Need-cast-put-at
 cast-put-at c = search needs
 
--- src/lib.rt:438:5
 put-at-requires : tie.Need-put-at-requires
 put-at-requires c κs = search needs
 
--- src/lib.rt:439:12
 slice-aggregate-put-at-2 : tie.Need-slice-aggregate-put-at-2
 slice-aggregate-put-at-2 c = search needs
 
--- src/lib.rt:439:30
 cast-put-at-2 : tie.Need-cast-put-at-2
 cast-put-at-2 c = search needs
 
--- src/lib.rt:439:5
 put-at-requires-2 : tie.Need-put-at-requires-2
 put-at-requires-2 c κs = search needs
 
--- src/lib.rt:440:12
 slice-aggregate-put-at-3 : tie.Need-slice-aggregate-put-at-3
 slice-aggregate-put-at-3 c = search needs
 
--- src/lib.rt:440:30
 cast-put-at-3 : tie.Need-cast-put-at-3
 cast-put-at-3 c = search needs
 
--- src/lib.rt:440:5
 put-at-requires-3 : tie.Need-put-at-requires-3
 put-at-requires-3 c κs = search needs
 
--- src/lib.rt:441:12
 slice-aggregate-put-at-4 : tie.Need-slice-aggregate-put-at-4
 slice-aggregate-put-at-4 c = search needs
 
--- src/lib.rt:441:31
 cast-put-at-4 : tie.Need-cast-put-at-4
 cast-put-at-4 c = search needs
 
--- src/lib.rt:441:5
 put-at-requires-4 : tie.Need-put-at-requires-4
 put-at-requires-4 c κs = search needs
 
--- src/lib.rt:442:12
 slice-aggregate-put-at-5 : tie.Need-slice-aggregate-put-at-5
 slice-aggregate-put-at-5 c = search needs
 
--- src/lib.rt:442:31
 cast-put-at-5 : tie.Need-cast-put-at-5
 cast-put-at-5 c = search needs
 
--- src/lib.rt:442:5
 put-at-requires-5 : tie.Need-put-at-requires-5
 put-at-requires-5 c κs = search needs
 
--- src/lib.rt:433:1
 returns : tie.Need-returns
 returns c =
     let a = c .before .before .before .before .before .before .before .before .before .before .before .before .before .before .before .before .before .before .before .before .args in

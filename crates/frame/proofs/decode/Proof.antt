@@ -1,53 +1,39 @@
-use Rattle.frame.specs.FrameLaws.{no-bytes, no-first}
-use Rattle.frame.specs.Frames.{DecodeSays}
+-- `frame::decode` meets its contract: no frame is empty, or begins with another byte.
 use mathlib.Core.Path.{refl}
 use native.Mathlib.Omega.{arith}
 use borrow.Author.Needs.{needs}
+use Rattle.frame.specs.FrameLaws.{no-bytes, no-first}
+use Rattle.frame.specs.Frames.{DecodeSays}
 use Rattle.frame.proofs.decode.Statement.{statement}
 use Rattle.frame.proofs.decode.Tie as tie
-use Rattle.frame.proofs.decode.Reads as reads
-use Rattle.frame.proofs.decode.Lts as lts
-use Rattle.frame.proofs.decode_new.Reads as decode-new-reads
-use Rattle.frame.proofs.decode_row.Reads as decode-row-reads
-use Rattle.frame.proofs.decode_shape.Reads as decode-shape-reads
 
--- src/lib.rt:334:9
 returns : tie.Need-returns
 returns c = DecodeSays.refused (no-bytes (c .before .before .args .bytes .now) (c .if1 .taken)) refl
 
--- src/lib.rt:336:17
 shared-slice-read-first : tie.Need-shared-slice-read-first
 shared-slice-read-first c = search needs
 
--- src/lib.rt:338:14
 decode-new-requires : tie.Need-decode-new-requires
 decode-new-requires c κs = search needs
 
--- src/lib.rt:339:14
 decode-row-requires : tie.Need-decode-row-requires
 decode-row-requires c κs = search needs
 
--- src/lib.rt:340:18
 decode-shape-requires : tie.Need-decode-shape-requires
 decode-shape-requires c κs = search needs
 
--- src/lib.rt:330:1
 returns-2 : tie.Need-returns-2
 returns-2 c = search needs
 
--- src/lib.rt:330:1
 returns-3 : tie.Need-returns-3
 returns-3 c = search needs
 
--- src/lib.rt:330:1
 returns-4 : tie.Need-returns-4
 returns-4 c = search needs
 
--- src/lib.rt:330:1
 returns-5 : tie.Need-returns-5
 returns-5 c = DecodeSays.refused (no-first (c .before .before .before .before .before .args .bytes .now) (c .before .match .rest .0 .1) (c .before .match .rest .1) (λ e. omega arith) (λ e. omega arith)) refl
 
--- src/lib.rt:330:1
 returns-6 : tie.Need-returns-6
 returns-6 c = DecodeSays.refused (no-first (c .before .before .before .before .before .before .args .bytes .now) (c .before .before .match .rest .0 .1) (c .before .before .match .rest .1) (λ e. omega arith) (λ e. omega arith)) refl
 

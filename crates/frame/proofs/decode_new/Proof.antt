@@ -1,40 +1,31 @@
+-- `frame::decode_new` meets its contract: six bytes are the frame of what stands in them.
+use mathlib.Core.Path.{refl}
+use borrow.Author.Needs.{needs}
 use Rattle.frame.specs.FrameLaws.{asks-new, no-new}
 use Rattle.frame.specs.Frames.{DecodeSays}
-use mathlib.Core.Path.{refl}
-use native.Mathlib.Omega.{arith}
-use borrow.Author.Needs.{needs}
 use Rattle.frame.proofs.decode_new.Statement.{statement}
 use Rattle.frame.proofs.decode_new.Tie as tie
-use Rattle.frame.proofs.decode_new.Reads as reads
-use Rattle.frame.proofs.decode_new.Lts as lts
 
--- src/lib.rt:295:20
 shared-slice-read-t6 : tie.Need-shared-slice-read-t6
 shared-slice-read-t6 c = search needs
 
--- src/lib.rt:295:30
 shared-slice-read-t8 : tie.Need-shared-slice-read-t8
 shared-slice-read-t8 c = search needs
 
--- src/lib.rt:295:40
 shared-slice-read-t10 : tie.Need-shared-slice-read-t10
 shared-slice-read-t10 c = search needs
 
--- src/lib.rt:295:50
 shared-slice-read-t12 : tie.Need-shared-slice-read-t12
 shared-slice-read-t12 c = search needs
 
--- src/lib.rt:295:60
 shared-slice-read-t14 : tie.Need-shared-slice-read-t14
 shared-slice-read-t14 c = search needs
 
--- src/lib.rt:290:1
 returns : tie.Need-returns
 returns c =
     let a = c .before .before .before .before .before .before in
     DecodeSays.asked _ (asks-new (a .args .bytes .now) (c .before .before .before .before .before .if1 .taken) (a .pre .1) (λ k. c .shared-slice-known5 .given k .fits)) refl
 
--- src/lib.rt:290:1
 returns-2 : tie.Need-returns-2
 returns-2 c = DecodeSays.refused (no-new (c .before .args .bytes .now) (c .before .pre .1) (c .if1 .left)) refl
 

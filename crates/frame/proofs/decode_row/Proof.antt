@@ -1,28 +1,23 @@
+-- `frame::decode_row` meets its contract: 2 to 50 bytes are the frame of what stands in them.
+use mathlib.Core.Path.{refl, sym, ap}
+use native.Mathlib.Omega.{arith}
+use lib.ListN.{getD, drop, length-drop}
+use borrow.Author.Needs.{needs}
 use Rattle.frame.specs.FrameLaws.{asks-row, no-row}
 use Rattle.frame.specs.Frames.{DecodeSays, row}
 use Rattle.frame.specs.declared.Frame.the-variants.{Row}
-use lib.ListN.{getD, drop, length-drop}
-use mathlib.Core.Path.{refl, sym, ap}
-use native.Mathlib.Omega.{arith}
-use borrow.Author.Needs.{needs}
 use Rattle.frame.proofs.decode_row.Statement.{statement}
 use Rattle.frame.proofs.decode_row.Tie as tie
-use Rattle.frame.proofs.decode_row.Reads as reads
-use Rattle.frame.proofs.decode_row.Lts as lts
 
--- src/lib.rt:307:9
 returns : tie.Need-returns
 returns c = DecodeSays.refused (no-row (c .before .args .bytes .now) (c .before .pre .1) (λ h. omega arith)) refl
 
--- src/lib.rt:310:9
 returns-2 : tie.Need-returns-2
 returns-2 c = DecodeSays.refused (no-row (c .before .before .args .bytes .now) (c .before .before .pre .1) (λ h. omega arith)) refl
 
--- src/lib.rt:312:16
 shared-slice-read-t5 : tie.Need-shared-slice-read-t5
 shared-slice-read-t5 c = search needs
 
--- src/lib.rt:301:1
 returns-3 : tie.Need-returns-3
 returns-3 c =
     let a = c .before .before .before in

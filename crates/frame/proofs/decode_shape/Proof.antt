@@ -1,44 +1,35 @@
-use Rattle.frame.specs.FrameLaws.{asks-score, asks-paint, no-shape, shape-some, shape-none}
-use Rattle.frame.specs.Frames.{DecodeSays, score, paint}
+-- `frame::decode_shape` meets its contract by what was found of a shape.
 use mathlib.Core.Path.{refl}
 use native.Mathlib.Omega.{arith}
 use borrow.Author.Needs.{needs}
+use Rattle.frame.specs.FrameLaws.{asks-score, asks-paint, no-shape, shape-some, shape-none}
+use Rattle.frame.specs.Frames.{DecodeSays, score, paint}
 use Rattle.frame.proofs.decode_shape.Statement.{statement}
 use Rattle.frame.proofs.decode_shape.Tie as tie
-use Rattle.frame.proofs.decode_shape.Reads as reads
-use Rattle.frame.proofs.decode_shape.Lts as lts
-use Rattle.frame.proofs.shape_of.Reads as shape-of-reads
 
--- src/lib.rt:320:36
 shape-of-requires : tie.Need-shape-of-requires
 shape-of-requires c κs = search needs
 
--- src/lib.rt:320:19
 enum-known-kind : tie.Need-enum-known-kind
 enum-known-kind c = search needs
 
--- src/lib.rt:321:9
 enum-told : tie.Need-enum-told
 enum-told c = search needs
 
--- src/lib.rt:321:9
 returns : tie.Need-returns
 returns c =
     let s = c .before .before .before .before in
     DecodeSays.refused (no-shape (s .args .bytes .now) (s .pre .1) (shape-none (c .before .before .shape-of .ensures) (c .enum-told .given .1))) refl
 
--- src/lib.rt:323:8
 shared-slice-read-if1 : tie.Need-shared-slice-read-if1
 shared-slice-read-if1 c = search needs
 
--- src/lib.rt:324:9
 returns-2 : tie.Need-returns-2
 returns-2 c =
     let s = c .before .before .before .before .before .before .before in
     let k = c .before .before .before .kind .given in
     DecodeSays.asked (score (k .0 .0) (k .0 .1 .0)) (asks-score (s .args .bytes .now) (k .0 .0) (k .0 .1 .0) (s .pre .0) (c .if1 .taken) (shape-some (k .0 .0) (k .0 .1 .0) (c .before .before .before .before .before .shape-of .ensures) (k .1))) refl
 
--- src/lib.rt:316:1
 returns-3 : tie.Need-returns-3
 returns-3 c =
     let s = c .before .before .before .before .before .before .before in

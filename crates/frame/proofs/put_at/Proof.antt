@@ -1,37 +1,28 @@
-use Rattle.frame.specs.AnswerLaws.{put-part}
+-- `frame::put_at` meets its contract: the part that came back is the number's bytes.
 use native.Mathlib.Omega.{arith}
 use borrow.Author.Needs.{needs}
+use Rattle.frame.specs.AnswerLaws.{put-part}
 use Rattle.frame.proofs.put_at.Statement.{statement}
 use Rattle.frame.proofs.put_at.Tie as tie
-use Rattle.frame.proofs.put_at.Reads as reads
-use Rattle.frame.proofs.put_at.Lts as lts
-use Rattle.frame.proofs.put_big.Reads as put-big-reads
 
--- src/lib.rt:428:15
 add-end : tie.Need-add-end
 add-end c = search needs
 
--- src/lib.rt:429:13
 sub-put-big : tie.Need-sub-put-big
 sub-put-big c = search needs
 
--- src/lib.rt:429:13
 part-put-big-start : tie.Need-part-put-big-start
 part-put-big-start c = search needs
 
--- src/lib.rt:429:13
 part-put-big-end : tie.Need-part-put-big-end
 part-put-big-end c = search needs
 
--- src/lib.rt:429:5
 put-big-requires : tie.Need-put-big-requires
 put-big-requires c κs = search needs
 
--- src/lib.rt:424:1
 same-length : tie.Need-same-length
 same-length c = search needs
 
--- src/lib.rt:424:1
 returns : tie.Need-returns
 returns c = let a = c .before .before .before .before .before .args in put-part (a .out .now) (c .before .before .put-big .last .0) (a .at) (a .n) (a .v) (omega arith) (c .before .before .put-big .ensures)
 

@@ -1,39 +1,29 @@
-use Rattle.laws.specs.Fit.{read}
-use mir.Syntax.{w32}
+-- `frame::triangle` meets its contract: each coordinate as it was read.
 use mathlib.Core.Path.{refl}
-use native.Mathlib.Omega.{arith}
+use mir.Syntax.{w32}
 use borrow.Author.Needs.{needs}
+use Rattle.laws.specs.Fit.{read}
 use Rattle.frame.proofs.triangle.Statement.{statement}
 use Rattle.frame.proofs.triangle.Tie as tie
-use Rattle.frame.proofs.triangle.Reads as reads
-use Rattle.frame.proofs.triangle.Lts as lts
-use Rattle.frame.proofs.coordinate.Reads as coordinate-reads
 
--- src/lib.rt:235:9
 coordinate-requires : tie.Need-coordinate-requires
 coordinate-requires c κs = search needs
 
--- src/lib.rt:236:9
 coordinate-requires-2 : tie.Need-coordinate-requires-2
 coordinate-requires-2 c κs = search needs
 
--- src/lib.rt:237:9
 coordinate-requires-3 : tie.Need-coordinate-requires-3
 coordinate-requires-3 c κs = search needs
 
--- src/lib.rt:238:9
 coordinate-requires-4 : tie.Need-coordinate-requires-4
 coordinate-requires-4 c κs = search needs
 
--- src/lib.rt:239:9
 coordinate-requires-5 : tie.Need-coordinate-requires-5
 coordinate-requires-5 c κs = search needs
 
--- src/lib.rt:240:9
 coordinate-requires-6 : tie.Need-coordinate-requires-6
 coordinate-requires-6 c κs = search needs
 
--- src/lib.rt:230:1
 returns : tie.Need-returns
 returns c =
     simp (read w32 (c .before .before .before .before .before .coordinate .result) (c .before .before .before .before .before .coordinate .ok), read w32 (c .before .before .before .before .coordinate2 .result) (c .before .before .before .before .coordinate2 .ok), read w32 (c .before .before .before .coordinate3 .result) (c .before .before .before .coordinate3 .ok), read w32 (c .before .before .coordinate4 .result) (c .before .before .coordinate4 .ok), read w32 (c .before .coordinate5 .result) (c .before .coordinate5 .ok), read w32 (c .coordinate6 .result) (c .coordinate6 .ok))

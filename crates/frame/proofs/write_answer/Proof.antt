@@ -1,92 +1,66 @@
-use Rattle.frame.specs.AnswerLaws.{answered-as}
-use native.Mathlib.Omega.{arith}
+-- `frame::write_answer` meets its contract: each answer by its own function.
 use borrow.Author.Needs.{needs}
+use Rattle.frame.specs.AnswerLaws.{answered-as}
 use Rattle.frame.proofs.write_answer.Statement.{statement}
 use Rattle.frame.proofs.write_answer.Tie as tie
-use Rattle.frame.proofs.write_answer.Reads as reads
-use Rattle.frame.proofs.write_answer.Lts as lts
-use Rattle.frame.proofs.write_one.Reads as write-one-reads
-use Rattle.frame.proofs.write_painted.Reads as write-painted-reads
-use Rattle.frame.proofs.write_refused.Reads as write-refused-reads
-use Rattle.frame.proofs.write_scored.Reads as write-scored-reads
 
--- src/lib.rt:491:41
 enum-told : tie.Need-enum-told
 enum-told c = search needs
 
--- src/lib.rt:491:25
 write-one-requires : tie.Need-write-one-requires
 write-one-requires c κs = search needs
 
--- src/lib.rt:492:40
 enum-told-2 : tie.Need-enum-told-2
 enum-told-2 c = search needs
 
--- src/lib.rt:492:24
 write-one-requires-2 : tie.Need-write-one-requires-2
 write-one-requires-2 c κs = search needs
 
--- src/lib.rt:493:24
 enum-known-a : tie.Need-enum-known-a
 enum-known-a c = search needs
 
--- src/lib.rt:493:30
 write-scored-requires : tie.Need-write-scored-requires
 write-scored-requires c κs = search needs
 
--- src/lib.rt:494:25
 enum-known-a-2 : tie.Need-enum-known-a-2
 enum-known-a-2 c = search needs
 
--- src/lib.rt:494:38
 write-painted-requires : tie.Need-write-painted-requires
 write-painted-requires c κs = search needs
 
--- src/lib.rt:495:25
 enum-known-a-3 : tie.Need-enum-known-a-3
 enum-known-a-3 c = search needs
 
--- src/lib.rt:495:36
 write-refused-requires : tie.Need-write-refused-requires
 write-refused-requires c κs = search needs
 
--- src/lib.rt:487:1
 same-length : tie.Need-same-length
 same-length c = search needs
 
--- src/lib.rt:487:1
 returns : tie.Need-returns
 returns c = answered-as (c .before .before .before .before .enum-told .given .1) (c .before .before .write-one .ensures)
 
--- src/lib.rt:487:1
 same-length-2 : tie.Need-same-length-2
 same-length-2 c = search needs
 
--- src/lib.rt:487:1
 returns-2 : tie.Need-returns-2
 returns-2 c = answered-as (c .before .before .before .before .enum-told2 .given .1) (c .before .before .write-one2 .ensures)
 
--- src/lib.rt:487:1
 same-length-3 : tie.Need-same-length-3
 same-length-3 c = search needs
 
--- src/lib.rt:487:1
 returns-3 : tie.Need-returns-3
 returns-3 c = answered-as (c .before .before .before .before .before .a .given .1) (c .before .before .write-scored .ensures)
 
--- src/lib.rt:487:1
 same-length-4 : tie.Need-same-length-4
 same-length-4 c = search needs
 
--- src/lib.rt:487:1
 returns-4 : tie.Need-returns-4
 returns-4 c = answered-as (c .before .before .before .before .before .a2 .given .1) (c .before .before .write-painted .ensures)
 
--- src/lib.rt:487:1
 same-length-5 : tie.Need-same-length-5
 same-length-5 c = search needs
 
--- src/lib.rt:487:1
 returns-5 : tie.Need-returns-5
 returns-5 c = answered-as (c .before .before .before .before .before .a3 .given .1) (c .before .before .write-refused .ensures)
 

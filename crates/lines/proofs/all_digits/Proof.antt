@@ -1,17 +1,15 @@
-use Rattle.frame.specs.HexLaws.{digit-value-below}
-use Rattle.laws.specs.Fit.{no-both}
-use mathlib.Core.Path.{refl}
+-- `lines::all_digits` meets its contract. The loop's invariant: every character passed is a digit.
 use Prim.Native.Nat.{ℕ, _-_, _<_, _≤_}
+use mathlib.Core.Path.{refl}
+use native.Mathlib.Omega.{arith}
 use lib.ListN.{length, getD}
 use borrow.Author.Count.{below-more}
 use borrow.Author.Needs.{needs}
-use Rattle.frame.specs.Inside.{IsDigit}
-use native.Mathlib.Omega.{arith}
-use Rattle.frame.proofs.all_digits.Statement.{statement}
-use Rattle.frame.proofs.all_digits.Tie as tie
-use Rattle.frame.proofs.all_digits.Reads as reads
-use Rattle.frame.proofs.all_digits.Lts as lts
-use Rattle.frame.proofs.digit_of.Reads as digit-of-reads
+use Rattle.laws.specs.Fit.{no-both}
+use Rattle.lines.specs.HexLaws.{digit-value-below}
+use Rattle.lines.specs.Inside.{IsDigit}
+use Rattle.lines.proofs.all_digits.Statement.{statement}
+use Rattle.lines.proofs.all_digits.Tie as tie
 
 abbrev Inv-loop : tie.InvT-loop
 Inv-loop line i₀ i = (i ≤ length line) × ((k : ℕ) → k < i → IsDigit (getD line k 0))
@@ -19,39 +17,31 @@ Inv-loop line i₀ i = (i ≤ length line) × ((k : ℕ) → k < i → IsDigit (
 abbrev μ-loop : tie.MeasureT-loop
 μ-loop line i₀ i = length line - i
 
--- src/lib.rt:40:5
 loop-holds : tie.Need-loop-holds Inv-loop μ-loop
 loop-holds c = (omega arith, λ k h. absurd (omega arith))
 
--- src/lib.rt:41:26
 shared-slice-read-digit-of : tie.Need-shared-slice-read-digit-of Inv-loop μ-loop
 shared-slice-read-digit-of c = search needs
 
--- src/lib.rt:41:13
 digit-of-requires : tie.Need-digit-of-requires Inv-loop μ-loop
 digit-of-requires c κs = search needs
 
--- src/lib.rt:43:13
 returns : tie.Need-returns Inv-loop μ-loop
-returns c = 
+returns c =
     let d = c .before .digit-of .ensures in
     record { yes = λ e. no-both e refl; no = λ _ all. omega (arith, digit-value-below d (all (c .before .before .before .before .loop .i) (omega arith))) }
 
--- src/lib.rt:45:9
 add-i : tie.Need-add-i Inv-loop μ-loop
 add-i c = search needs
 
--- src/lib.rt:40:5
 loop-less : tie.Need-loop-less Inv-loop μ-loop
 loop-less c = search needs
 
--- src/lib.rt:40:5
 loop-again : tie.Need-loop-again Inv-loop μ-loop
-loop-again c = 
+loop-again c =
     let d = c .before .digit-of .ensures in
     (omega arith, below-more _ _ (c .before .before .before .before .loop .inv .1) (c .before .digit-of .result, omega arith, d .value (omega arith)))
 
--- src/lib.rt:36:1
 returns-2 : tie.Need-returns-2 Inv-loop μ-loop
 returns-2 c = record { yes = λ _ k h. c .before .loop .inv .1 k (omega arith); no = λ e _. no-both refl e }
 

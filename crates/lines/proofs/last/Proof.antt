@@ -1,7 +1,7 @@
--- `frame::last` meets its contract: each return by its own law.
-use Rattle.frame.specs.LineLaws.{last-ended, last-over, last-held}
-use Rattle.frame.proofs.last.Statement.{statement}
-use Rattle.frame.proofs.last.Tie as tie
+-- `lines::last` meets its contract: each return by its own law.
+use Rattle.lines.specs.LineLaws.{last-ended, last-over, last-held}
+use Rattle.lines.proofs.last.Statement.{statement}
+use Rattle.lines.proofs.last.Tie as tie
 
 returns : tie.Need-returns
 returns c = last-ended (c .before .args .line) (c .if1 .taken)

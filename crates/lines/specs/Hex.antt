@@ -5,8 +5,8 @@ use mathlib.Core.List.{List, [], _∷_, _++_, map}
 use Prim.Native.Nat.{ℕ, _+_, _-_, _/_, _%_, _<_, _≤_}
 use lib.Dec.{ltb, leb}
 use lib.ListN.{length, drop}
-use Rattle.frame.specs.declared.Digits.{Digits}
-use Rattle.frame.specs.declared.Digits.the-variants.{Bytes, Bad}
+use Rattle.lines.specs.declared.Digits.{Digits}
+use Rattle.lines.specs.declared.Digits.the-variants.{Bytes, Bad}
 
 -- the number of a malformed line
 abbrev pub malformed : ℕ

@@ -1,11 +1,12 @@
 -- Rules: document 01, "The program": lines end in LF, which the last may lack. How a reader that is fed byte by byte finds them.
 use mathlib.Core.Path.{_≡_}
 use mathlib.Core.Bool.{Bool, true, false, _&&_, _||_, not, cond}
-use mathlib.Core.List.{List, [], _∷_}
+use mathlib.Core.List.{List, [], _∷_, _++_}
 use Prim.Native.Nat.{ℕ, _+_}
 use lib.Dec.{eqb, ltb, leb}
 use lib.ListN.{length, take, set}
-use Rattle.frame.specs.declared.Line.{Line}
+use Rattle.lines.specs.declared.Line.{Line}
+use Rattle.lines.specs.Hex.{hexOf, over}
 
 abbrev pub lf : ℕ
 lf = 10
@@ -69,6 +70,20 @@ FeedSays s b text r after = (r ≡ fed (length text) s b) × (after ≡ stored s
 
 abbrev pub LastSays : Line → Bool → Type 0
 LastSays s r = r ≡ unfinished s
+
+-- ---- a line written
+-- digits and LF
+abbrev pub lineOf : List ℕ → List ℕ
+lineOf bytes = hexOf bytes ++ lf ∷ []
+
+-- a line is written whole or, where the lent buffer has no room for it, not at all
+unfoldable pub fitted : List ℕ → List ℕ → List ℕ
+fitted old line = cond (leb (length line) (length old)) line []
+
+-- the line stands at the front of the buffer, and what stood after it stays
+pub record WriteLineSays (bytes old : List ℕ) (r : ℕ) (after : List ℕ) : Type 0 where
+  pub count : r ≡ length (fitted old (lineOf bytes))
+  pub text : after ≡ over old (fitted old (lineOf bytes))
 
 -- ---- the reader at work, for anyone who answers lines: a state, and what a line makes of it
 pub record Reading (S : Type 0) : Type 0 where

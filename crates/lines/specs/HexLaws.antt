@@ -1,6 +1,5 @@
 -- Laws: digits and the bytes that they spell; what a line spells is one list of bytes.
 use mathlib.Core.Path.{_≡_, refl, sym, ap, _∙_, subst}
-use mathlib.Core.Bool.{Bool, true, false, cond}
 use mathlib.Core.List.{List, [], _∷_, _++_, map, append-assoc, head-eq-of-cons-eq, tail-eq-of-cons-eq}
 use mathlib.Core.Logic.{_⊎_, inl, inr, ⊎-elim}
 use Prim.Native.Nat.{ℕ, zero, suc, _+_, _-_, _*_, _/_, _%_, _<_, _≤_}
@@ -11,10 +10,10 @@ use native.Mathlib.Numerals.{add-one, add-two}
 use lib.Dec.{ltb}
 use borrow.Author.Tests.{lt-ltb, le-ltb, le-leb, lt-leb, ltb-true, ltb-false}
 use Rattle.laws.specs.Bools.{true-or-false}
-use Rattle.frame.specs.declared.Digits.{Digits}
-use Rattle.frame.specs.declared.Digits.the-variants.{Bytes}
-use Rattle.frame.specs.Hex.{Each, Byte, digit, hexOf, capital, Spells, DecodeHexSays}
-use Rattle.frame.specs.Inside.{DigitOf, IsDigit, AllDigits, SpelledBy}
+use Rattle.lines.specs.declared.Digits.{Digits}
+use Rattle.lines.specs.declared.Digits.the-variants.{Bytes}
+use Rattle.lines.specs.Hex.{Each, Byte, digit, hexOf, capital, Spells, DecodeHexSays}
+use Rattle.lines.specs.Inside.{DigitOf, IsDigit, AllDigits, SpelledBy}
 
 -- ---- each element of a list, by its place
 module _ {A : Type 0} (P : A → Type 0) where

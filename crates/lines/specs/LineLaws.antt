@@ -2,19 +2,19 @@
 use mathlib.Core.Path.{_≡_, refl, sym, ap, _∙_, subst}
 use mathlib.Core.Bool.{Bool, true, false, cond}
 use mathlib.Core.List.{List, [], _∷_, _++_, map, append-assoc, append-nil}
-use mathlib.Core.Logic.{_⊎_, inl, inr, ⊎-elim}
-use Prim.Native.Nat.{ℕ, zero, suc, _+_, _<_, _≤_}
+use mathlib.Core.Logic.{_⊎_, ⊎-elim}
+use Prim.Native.Nat.{ℕ, suc, _+_, _<_, _≤_}
 use native.Mathlib.Omega.{arith}
 use lib.ListN.{length, take, set, length-set, length-append}
 use lib.Seq.{set-out, take-suc-set}
-use lib.Dec.{eqb, ltb, leb}
+use lib.Dec.{eqb, ltb}
 use borrow.Author.Tests.{lt-ltb, le-ltb, le-leb, lt-leb, eq-eqb, ne-eqb, eqb-false}
-use Rattle.frame.specs.declared.Line.{Line}
+use Rattle.lines.specs.declared.Line.{Line}
 use Rattle.laws.specs.Bools.{true-or-false}
 use Rattle.laws.specs.Fit.{no-both}
-use Rattle.frame.specs.Hex.{Each}
-use Rattle.frame.specs.HexLaws.{below-or-not}
-use Rattle.frame.specs.Lines.{lf, before, split, Told, whole, tooLong, told, fresh, standing, ending, longer, fed, stored, heard, unfinished, StartSays, FeedSays, LastSays, Reading, answered, taken, allTaken, finished, inTurn}
+use Rattle.lines.specs.Hex.{Each}
+use Rattle.lines.specs.HexLaws.{below-or-not}
+use Rattle.lines.specs.Lines.{lf, before, split, Told, whole, told, fresh, standing, ending, fed, stored, heard, unfinished, StartSays, FeedSays, LastSays, Reading, answered, taken, allTaken, finished, inTurn}
 
 pub StartSays-unique : (r s : Line) → StartSays r → StartSays s → r ≡ s
 StartSays-unique r s p q = p ∙ sym q
@@ -119,16 +119,19 @@ has-more room seen text s b h n =
     simp (ne-eqb b 10 n, k)
     (record {
       all = length-set text (standing s .held) b ∙ h .all;
-      fits = λ m. (omega (arith, f .0, length-snoc), f .1,
+      fits = λ m. (
+        omega (arith, f .0, length-snoc),
+        f .1,
         ap (λ i. take (length (seen ++ b ∷ [])) (set text i b)) (f .0)
-        ∙ ap (λ i. take i (set text (length seen) b)) length-snoc
-        ∙ take-suc-set text (length seen) b in-text
-        ∙ ap (λ (t : List ℕ). t ++ b ∷ []) (f .2));
+            ∙ ap (λ i. take i (set text (length seen) b)) length-snoc
+            ∙ take-suc-set text (length seen) b in-text
+            ∙ ap (λ (t : List ℕ). t ++ b ∷ []) (f .2),
+      );
       long = λ m. absurd (omega (arith, length-snoc));
     }))
     (λ (l : room ≤ length seen).
     let held : standing s .held ≡ room =
-      ⊎-elim (λ (e : room < length seen). h .long e .0) (λ (e : length seen ≤ room). h .fits e .0 ∙ omega arith) (below-or-not room (length seen)) in
+    ⊎-elim (λ (e : room < length seen). h .long e .0) (λ (e : length seen ≤ room). h .fits e .0 ∙ omega arith) (below-or-not room (length seen)) in
     let k : ltb (standing s .held) room ≡ false = le-ltb (standing s .held) room (omega (arith, held)) in
     let out : length text ≤ standing s .held = omega (arith, held, h .all) in
     simp (ne-eqb b 10 n, k, set-out text (standing s .held) b out)
@@ -236,15 +239,15 @@ module _ {S : Type 0} (answer : S → Told → S) where
       (λ (e : eqb b lf ≡ true).
       ap (λ q. finished answer (allTaken answer q rest)) (taken-lf room b seen r h e)
       ∙ follows room rest []
-        (record { line = ending (standing (r .line)); text = r .text; state = answer (r .state) (told room seen) })
-        (subst (λ n. Has n [] fresh (r .text)) (h .all) (has-none (r .text)))
+      (record { line = ending (standing (r .line)); text = r .text; state = answer (r .state) (told room seen) })
+      (subst (λ n. Has n [] fresh (r .text)) (h .all) (has-none (r .text)))
       ∙ ap (λ (l : List (List ℕ)). inTurn answer (answer (r .state) (told room seen)) (map (told room) l)) (onto-none (split rest))
       ∙ ap (λ (l : List (List ℕ)). inTurn answer (r .state) (map (told room) l)) (onto-lf seen b rest e))
       (λ (e : eqb b lf ≡ false).
       ap (λ q. finished answer (allTaken answer q rest)) (taken-more room b r (h .all) e)
       ∙ follows room rest (seen ++ b ∷ [])
-        (record { line = fed room (r .line) b; text = stored (r .line) b (r .text); state = r .state })
-        (has-more room seen (r .text) (r .line) b h (eqb-false b lf e))
+      (record { line = fed room (r .line) b; text = stored (r .line) b (r .text); state = r .state })
+      (has-more room seen (r .text) (r .line) b h (eqb-false b lf e))
       ∙ ap (λ (l : List (List ℕ)). inTurn answer (r .state) (map (told room) l)) (onto-byte seen b rest e))
       (true-or-false (eqb b lf))
 

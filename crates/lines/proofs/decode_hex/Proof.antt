@@ -1,60 +1,45 @@
-use Rattle.frame.specs.HexLaws.{decodes}
-use lib.ListN.{length, length-take}
-use native.Mathlib.Nat.{sub-zero}
+-- `lines::decode_hex` meets its contract: each refusal because the characters that any bytes give are as many as two a byte, and digits.
 use Prim.Native.Nat.{_/_}
-use Rattle.frame.specs.HexLaws.{spells-length, spells-digits}
-use Rattle.frame.specs.Hex.{DecodeHexSays}
-use mathlib.Core.Path.{_≡_, refl}
+use mathlib.Core.Path.{refl}
+use native.Mathlib.Nat.{sub-zero}
 use native.Mathlib.Omega.{arith}
+use lib.ListN.{length, length-take}
 use borrow.Author.Needs.{needs}
-use Rattle.frame.proofs.decode_hex.Statement.{statement}
-use Rattle.frame.proofs.decode_hex.Tie as tie
-use Rattle.frame.proofs.decode_hex.Reads as reads
-use Rattle.frame.proofs.decode_hex.Lts as lts
-use Rattle.frame.proofs.all_digits.Reads as all-digits-reads
-use Rattle.frame.proofs.fill.Reads as fill-reads
+use Rattle.lines.specs.HexLaws.{decodes, spells-length, spells-digits}
+use Rattle.lines.specs.Hex.{DecodeHexSays}
+use Rattle.lines.proofs.decode_hex.Statement.{statement}
+use Rattle.lines.proofs.decode_hex.Tie as tie
 
--- src/lib.rt:72:9
 returns : tie.Need-returns
 returns c = DecodeHexSays.refused (λ bytes s l. omega (arith, s .some, spells-length s)) refl refl
 
--- src/lib.rt:74:8
 add-if2 : tie.Need-add-if2
 add-if2 c = search needs
 
--- src/lib.rt:75:9
 returns-2 : tie.Need-returns-2
 returns-2 c = DecodeHexSays.refused (λ bytes s l. omega (arith, spells-length s)) refl refl
 
--- src/lib.rt:78:9
 returns-3 : tie.Need-returns-3
 returns-3 c = DecodeHexSays.refused (λ bytes s l. omega (arith, spells-length s)) refl refl
 
--- src/lib.rt:80:8
 all-digits-requires : tie.Need-all-digits-requires
 all-digits-requires c κs = search needs
 
--- src/lib.rt:81:20
 sub-fill : tie.Need-sub-fill
 sub-fill c = search needs
 
--- src/lib.rt:81:20
 part-fill-start : tie.Need-part-fill-start
 part-fill-start c = search needs
 
--- src/lib.rt:81:20
 part-fill-end : tie.Need-part-fill-end
 part-fill-end c = search needs
 
--- src/lib.rt:81:9
 fill-requires : tie.Need-fill-requires
 fill-requires c κs = (simp length-take (omega arith), c .before .before .all-digits .ensures .yes (c .before .if4 .taken))
 
--- src/lib.rt:67:1
 same-length : tie.Need-same-length
 same-length c = search needs
 
--- src/lib.rt:67:1
 returns-4 : tie.Need-returns-4
 returns-4 c =
     let a = c .before .before .before .before .before .before .before .before .before .before .before .args in
@@ -64,7 +49,6 @@ returns-4 c =
     (λ k. c .slice-known2 .given k .fits)
     (f .ensures)
 
--- src/lib.rt:67:1
 returns-5 : tie.Need-returns-5
 returns-5 c = DecodeHexSays.refused (λ bytes s l. c .before .all-digits .ensures .no (c .if4 .left) (spells-digits s)) refl refl
 

@@ -1,16 +1,14 @@
-use lib.Seq.{take-length}
-use Prim.Native.Nat.{ℕ, _+_, _-_, _<_, _≤_}
-use mathlib.Core.Path.{_≡_, refl, sym, ap, _∙_}
-use lib.ListN.{length, getD, take, length-set}
-use borrow.Author.Needs.{needs}
-use Rattle.frame.specs.Inside.{SpelledBy, AllDigits}
-use Rattle.frame.specs.HexLaws.{fill-step, digit-value-below}
+-- `lines::fill` meets its contract. The loop's invariant: the bytes written spell the characters passed.
+use Prim.Native.Nat.{_+_, _-_, _<_, _≤_}
+use mathlib.Core.Path.{_≡_}
 use native.Mathlib.Omega.{arith}
-use Rattle.frame.proofs.fill.Statement.{statement}
-use Rattle.frame.proofs.fill.Tie as tie
-use Rattle.frame.proofs.fill.Reads as reads
-use Rattle.frame.proofs.fill.Lts as lts
-use Rattle.frame.proofs.digit_of.Reads as digit-of-reads
+use lib.Seq.{take-length}
+use lib.ListN.{length, take, length-set}
+use borrow.Author.Needs.{needs}
+use Rattle.lines.specs.Inside.{SpelledBy}
+use Rattle.lines.specs.HexLaws.{fill-step, digit-value-below}
+use Rattle.lines.proofs.fill.Statement.{statement}
+use Rattle.lines.proofs.fill.Tie as tie
 
 abbrev Inv-loop : tie.InvT-loop
 Inv-loop line out₀ i₀ at₀ out i at =
@@ -19,27 +17,21 @@ Inv-loop line out₀ i₀ at₀ out i at =
 abbrev μ-loop : tie.MeasureT-loop
 μ-loop line out₀ i₀ at₀ out i at = length out₀ - i
 
--- src/lib.rt:57:5
 loop-holds : tie.Need-loop-holds Inv-loop μ-loop
 loop-holds c = search needs
 
--- src/lib.rt:58:29
 shared-slice-read-digit-of : tie.Need-shared-slice-read-digit-of Inv-loop μ-loop
 shared-slice-read-digit-of c = search needs
 
--- src/lib.rt:58:13
 digit-of-requires : tie.Need-digit-of-requires Inv-loop μ-loop
 digit-of-requires c κs = search needs
 
--- src/lib.rt:59:33
 add-digit-of : tie.Need-add-digit-of Inv-loop μ-loop
 add-digit-of c = search needs
 
--- src/lib.rt:59:28
 shared-slice-read-digit-of-2 : tie.Need-shared-slice-read-digit-of-2 Inv-loop μ-loop
 shared-slice-read-digit-of-2 c = search needs
 
--- src/lib.rt:59:13
 digit-of-requires-2 : tie.Need-digit-of-requires-2 Inv-loop μ-loop
 digit-of-requires-2 c κs = search needs
 
@@ -54,50 +46,42 @@ low-below c =
     let p = c .before .before .before .before .before .before .before .before in
     digit-value-below (c .digit-of2 .ensures) (p .pre .1 (c .before .before .before .before .before .loop .at + 1) (omega arith))
 
--- src/lib.rt:60:18
 mul-out : tie.Need-mul-out Inv-loop μ-loop
 mul-out c = omega (arith, high-below c)
 
--- src/lib.rt:60:18
 add-out : tie.Need-add-out Inv-loop μ-loop
 add-out c = omega (arith, high-below c, low-below c)
 
--- src/lib.rt:60:9
 slice-write-out : tie.Need-slice-write-out Inv-loop μ-loop
 slice-write-out c = search needs
 
--- src/lib.rt:61:9
 add-i : tie.Need-add-i Inv-loop μ-loop
 add-i c = search needs
 
--- src/lib.rt:62:9
 add-at : tie.Need-add-at Inv-loop μ-loop
 add-at c = search needs
 
--- src/lib.rt:57:5
 loop-less : tie.Need-loop-less Inv-loop μ-loop
 loop-less c = search needs
 
--- src/lib.rt:57:5
 loop-again : tie.Need-loop-again Inv-loop μ-loop
-loop-again c = 
+loop-again c =
     let k = c .before .before .before .before .before .loop in
     let a = c .before .before .before .before .before .before .before .before .args in
     let h = c .before .before .digit-of in
-    let l = c .digit-of2 in
-    (omega arith,
-     omega arith,
-     simp length-set (omega arith),
-     fill-step (a .line .now) (k .out) (k .i) (k .at) (h .result) (l .result) (omega arith) (omega arith) (high-below c) (low-below c)
-     (h .ensures .value (high-below c)) (l .ensures .value (low-below c)) (k .inv .3))
+    let l = c .digit-of2 in (
+      omega arith,
+      omega arith,
+      simp length-set (omega arith),
+      fill-step (a .line .now) (k .out) (k .i) (k .at) (h .result) (l .result) (omega arith) (omega arith) (high-below c) (low-below c)
+          (h .ensures .value (high-below c)) (l .ensures .value (low-below c)) (k .inv .3),
+    )
 
--- src/lib.rt:51:1
 same-length : tie.Need-same-length Inv-loop μ-loop
 same-length c = search needs
 
--- src/lib.rt:51:1
 returns : tie.Need-returns Inv-loop μ-loop
-returns c = 
+returns c =
     let k = c .before .loop in
     let a = c .before .before .before .before .args in
     let e : k .at ≡ length (a .line .now) = omega arith in

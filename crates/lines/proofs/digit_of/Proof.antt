@@ -1,9 +1,9 @@
--- `frame::digit_of` meets its contract: each range of characters by its own law.
+-- `lines::digit_of` meets its contract: each range of characters by its own law.
 use native.Mathlib.Omega.{arith}
 use borrow.Author.Needs.{needs}
-use Rattle.frame.specs.HexLaws.{digit-number, digit-capital, digit-small, digit-none}
-use Rattle.frame.proofs.digit_of.Statement.{statement}
-use Rattle.frame.proofs.digit_of.Tie as tie
+use Rattle.lines.specs.HexLaws.{digit-number, digit-capital, digit-small, digit-none}
+use Rattle.lines.proofs.digit_of.Statement.{statement}
+use Rattle.lines.proofs.digit_of.Tie as tie
 
 sub-result : tie.Need-sub-result
 sub-result c = search needs
