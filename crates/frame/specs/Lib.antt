@@ -4,3 +4,4 @@ pub mod Inside
 pub mod FrameLaws
 pub mod ReadLaws
 pub mod AnswerLaws
+pub mod FrameFigures

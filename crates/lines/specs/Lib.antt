@@ -5,3 +5,4 @@ pub mod PlaceLaws
 pub mod HexLaws
 pub mod LineLaws
 pub mod WriteLaws
+pub mod LineFigures
