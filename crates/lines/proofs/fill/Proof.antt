@@ -47,7 +47,7 @@ low-below c =
     digit-value-below (c .digit-of2 .ensures) (p .pre .1 (c .before .before .before .before .before .loop .at + 1) (omega arith))
 
 mul-out : tie.Need-mul-out Inv-loop μ-loop
-mul-out c = omega (arith, high-below c)
+mul-out c = omega (arith, high-below c, low-below c)
 
 add-out : tie.Need-add-out Inv-loop μ-loop
 add-out c = omega (arith, high-below c, low-below c)
