@@ -18,3 +18,5 @@ pub mod Rows
 pub mod RowLaws
 pub mod Index
 pub mod Fill
+pub mod Every
+pub mod EveryLaws

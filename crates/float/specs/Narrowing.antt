@@ -1,0 +1,245 @@
+-- Laws: the binary32 pattern of a binary64 pattern's value, rounded.
+use mathlib.Core.Path.{_≡_, refl, sym, ap, _∙_, subst}
+use mathlib.Core.Logic.{_⊎_, inl, inr}
+use Prim.Native.Nat.{ℕ, zero, suc, _+_, _-_, _*_, _/_, _%_, _^_, _≤_, _<_, compare, Ordering, Ordering·lt, Ordering·eq, Ordering·gt}
+use native.Mathlib.Nat.{lt-trans, mod-lt, add-zero, div-eq-of-lt, mod-eq-of-lt, le-add-right, lt-irrefl, le-trans, le-of-eq, lt-of-lt-of-le, eq-or-lt-of-le, mul-assoc, mul-pos, mul-le-mul-right, div-lt-iff-lt-mul, le-div-iff-mul-le}
+use native.Mathlib.Omega.{arith}
+use mathlib.Core.Bool.{Bool, true, false, not, cond}
+use lib.Dec.{T, leb, eqb, leb→le, nleb→lt, eqb→eq, not-T, lit<, lit≤}
+use lib.Pow.{pow-add, pow-pos, pow-mono, shl-lt, mod-mod-pow}
+use lib.Ieee.{Float, nan, inf, binary32, binary64, size, nearest, odd, units, ofFields, ofBits, toBits}
+use lib.Ieee.Digits.{size-le}
+use lib.Ieee.Fits.{core, round-is, nearest-le}
+use lib.Ieee.Bits.{cond-no}
+use lib.Ieee.Exact.{odd-sign}
+use lib.Ieee.Nearest.{closest, closest-same, nearest-ge}
+use Rattle.float.specs.Narrowed.{narrowed}
+use Rattle.float.specs.Numbers.{above-nan}
+use Rattle.float.specs.NarrowLaws.{narrowed-value}
+use Rattle.float.specs.Rounding.{Cmp, cmp, closest-div, closest-more, size-gt, size-drop, units-under, units-over}
+
+shifts : (q a b c e f : ℕ) → a + b + c ≡ e + f → q * 2 ^ a * 2 ^ b * 2 ^ c ≡ q * (2 ^ e * 2 ^ f)
+shifts q a b c e f h =
+    ap (λ (x : ℕ). x * 2 ^ c) (mul-assoc q (2 ^ a) (2 ^ b))
+    ∙ mul-assoc q (2 ^ a * 2 ^ b) (2 ^ c)
+    ∙ ap (λ (x : ℕ). q * x) (ap (λ (x : ℕ). x * 2 ^ c) (sym (pow-add 2 a b)) ∙ sym (pow-add 2 (a + b) c) ∙ ap (λ (x : ℕ). 2 ^ x) h ∙ pow-add 2 e f)
+
+pub two-shifts : (q a b : ℕ) → q * 2 ^ a * 2 ^ b ≡ q * 2 ^ (a + b)
+two-shifts q a b = mul-assoc q (2 ^ a) (2 ^ b) ∙ ap (λ (x : ℕ). q * x) (sym (pow-add 2 a b))
+
+-- the whole part of q * 2 ^ j / 2 ^ 1074 in units of 2 ^ -149 has 24 + k digits, or no more than 24 where k is 0
+digits : (q j d k : ℕ) → q < 2 ^ 53 → j + d ≡ 896 + k → (k ≡ 0) ⊎ ((d ≡ 0) × (2 ^ 52 ≤ q)) → size (q * 2 ^ j * 2 ^ 149 / 2 ^ 1074) - 24 ≡ k
+digits q j d k h e c =
+    size-drop 24 (size n) k
+    (size-le n (24 + k)
+    (div-lt-iff-lt-mul (pow-pos 1074) .1
+    (lt-of-lt-of-le (subst (λ (x : ℕ). x < 2 ^ (53 + (j + 149))) (sym (two-shifts q j 149)) (shl-lt 53 (j + 149) h))
+    (le-trans (pow-mono {i = 53 + (j + 149)} {j = 24 + k + 1074} (omega arith)) (le-of-eq (pow-add 2 (24 + k) 1074))))))
+    (go c)
+  where
+    n : ℕ
+    n = q * 2 ^ j * 2 ^ 149 / 2 ^ 1074
+
+    go : (k ≡ 0) ⊎ ((d ≡ 0) × (2 ^ 52 ≤ q)) → (k ≡ 0) ⊎ (24 + k ≤ size n)
+    go (inl z) = inl z
+    go (inr (z, l)) =
+        let g = size-gt n (23 + k) (le-div-iff-mul-le (pow-pos 1074) .1
+        (le-trans (le-of-eq (sym (pow-add 2 (23 + k) 1074) ∙ ap (λ (x : ℕ). 2 ^ x) (omega arith) ∙ pow-add 2 52 (j + 149)))
+        (le-trans (mul-le-mul-right (2 ^ (j + 149)) l) (le-of-eq (sym (two-shifts q j 149)))))) in
+        inr (omega arith)
+
+pub narrow-odd : (s : Bool) (q j d k : ℕ) → q < 2 ^ 53 → j + d ≡ 896 + k → (k ≡ 0) ⊎ ((d ≡ 0) × (2 ^ 52 ≤ q))
+    → narrowed (odd 53 s q j 1074) ≡ units binary32 s (closest q (2 ^ (29 + d))) k
+narrow-odd s q j d k h e c =
+    let n = q * 2 ^ j * 2 ^ 149 in
+    narrowed-value (odd 53 s q j 1074) s (q * 2 ^ j) (2 ^ 1074) (pow-pos 1074) (odd-sign 53 s q j 1074)
+    ∙ round-is binary32 s (q * 2 ^ j) (2 ^ 1074)
+    ∙ ap (λ (z : ℕ). core binary32 s n (2 ^ 1074) z) (digits q j d k h e c)
+    ∙ ap (λ (z : ℕ). units binary32 s z k)
+    (closest-same n (2 ^ 1074 * 2 ^ k) q (2 ^ (29 + d)) (mul-pos (pow-pos 1074) (pow-pos k)) (pow-pos (29 + d)) (shifts q j 149 (29 + d) 1074 k (omega arith)))
+
+-- ---- the patterns of binary64
+abbrev pub answer : ℕ → ℕ
+answer b = toBits binary32 (narrowed (ofBits binary64 b))
+
+abbrev pub sgn : ℕ → ℕ
+sgn b = b / 9223372036854775808 * 2147483648
+
+sign-is : (b : ℕ) → b < 18446744073709551616 → cond (leb 9223372036854775808 b) 2147483648 0 ≡ sgn b
+sign-is b h = go (leb 9223372036854775808 b) (leb→le 9223372036854775808 b) (nleb→lt 9223372036854775808 b)
+  where
+    go : (c : Bool) → (T c → 9223372036854775808 ≤ b) → (T (not c) → b < 9223372036854775808) → cond c 2147483648 0 ≡ sgn b
+    go true t f = let l = t tt in omega arith
+    go false t f = let l = f tt in omega arith
+
+of64 : (b : ℕ) → ofBits binary64 b ≡ ofFields binary64 (leb 9223372036854775808 b) (b % 9223372036854775808 / 4503599627370496) (b % 4503599627370496)
+unfolding ofBits
+of64 b = refl
+
+mid : (s : Bool) (t x : ℕ) → suc x < 2047 → ofFields binary64 s (suc x) t ≡ odd 53 s (4503599627370496 + t) x 1074
+unfolding ofFields
+mid s t x h =
+    cond-no (eqb (suc x) 2047) (cond (eqb t 0) (inf s) nan) (odd 53 s (4503599627370496 + t) x 1074) (not-T (eqb (suc x) 2047) (λ (u : T (eqb (suc x) 2047)). differ (eqb→eq (suc x) 2047 u)))
+  where
+    differ : suc x ≡ 2047 → ⊥
+    differ e = omega arith
+
+last : (s : Bool) → ofFields binary64 s 2047 0 ≡ inf s
+unfolding ofFields
+last s = refl
+
+first : (s : Bool) (t : ℕ) → ofFields binary64 s 0 t ≡ odd 53 s t 0 1074
+unfolding ofFields
+first s t = refl
+
+-- ---- a NaN
+pub at-nan : (b : ℕ) → 9218868437227405312 < b % 9223372036854775808 → answer b ≡ 2143289344
+unfolding toBits narrowed
+at-nan b h = ap (λ (v : Float). toBits binary32 (narrowed v)) (above-nan binary64 b h)
+
+-- ---- the closest, bounded
+pub closest-le : (q d k : ℕ) → 0 < d → q < suc k * d → closest q d ≤ suc k
+closest-le q d k p h = le-trans (nearest-le (q / d) (compare (q % d * 2) d)) (div-lt-iff-lt-mul p .1 h)
+
+-- ---- the normal range of binary32, up to the infinity: x is the exponent's field, t the digits
+module _ (s : Bool) (t y : ℕ) (H : t < 4503599627370496) where
+  abbrev q : ℕ
+  q = 4503599627370496 + t
+
+  q-lt : q < 2 ^ 53
+  q-lt = omega arith
+
+  normal-le : closest q 536870912 ≤ 16777216
+  normal-le = closest-le q 536870912 16777215 (lit< tt) (omega arith)
+
+  normal-ge : 8388608 ≤ closest q 536870912
+  normal-ge = le-trans (omega arith) (nearest-ge (q / 536870912) (compare (q % 536870912 * 2) 536870912))
+
+  -- exponent field suc y, from 897 up
+  normal : 896 ≤ y → suc y < 2047 → narrowed (ofFields binary64 s (suc y) t) ≡ units binary32 s (closest q 536870912) (y - 896)
+  normal l h = ap narrowed (mid s t y h) ∙ narrow-odd s q y 0 (y - 896) q-lt (omega arith) (inr (refl, le-add-right 4503599627370496 t))
+
+  pub normal-under : 896 ≤ y → (y - 896) * 8388608 + closest q 536870912 < 2139095040
+      → toBits binary32 (narrowed (ofFields binary64 s (suc y) t)) ≡ cond s 2147483648 0 + ((y - 896) * 8388608 + closest q 536870912)
+  normal-under l h = ap (toBits binary32) (normal l (omega arith)) ∙ units-under s (closest q 536870912) (y - 896) normal-le (inr normal-ge) h
+
+  pub normal-over : 896 ≤ y → suc y < 2047 → 2139095040 ≤ (y - 896) * 8388608 + closest q 536870912
+      → toBits binary32 (narrowed (ofFields binary64 s (suc y) t)) ≡ cond s 2147483648 0 + 2139095040
+  normal-over l m h = ap (toBits binary32) (normal l m) ∙ units-over s (closest q 536870912) (y - 896) normal-le (inr normal-ge) h
+
+  -- below it: a multiple of the smallest value
+  pub tiny-le : (d : ℕ) → 0 < d → closest q (2 ^ (29 + d)) ≤ 8388608
+  tiny-le d p =
+      closest-le q (2 ^ (29 + d)) 8388607 (pow-pos (29 + d))
+      (lt-of-lt-of-le q-lt (le-trans (pow-mono {i = 53} {j = 23 + (29 + d)} (omega arith)) (le-of-eq (pow-add 2 23 (29 + d)))))
+
+  pub tiny : (d : ℕ) → y + d ≡ 896 → 0 < d → toBits binary32 (narrowed (ofFields binary64 s (suc y) t)) ≡ cond s 2147483648 0 + closest q (2 ^ (29 + d))
+  tiny d e p =
+      let w = tiny-le d p in
+      ap (toBits binary32) (ap narrowed (mid s t y (omega arith)) ∙ narrow-odd s q y d 0 q-lt (omega arith) (inl refl))
+      ∙ units-under s (closest q (2 ^ (29 + d))) 0 (omega arith) (inl refl) (omega arith)
+      ∙ omega arith
+
+-- ---- too small
+closest-zero : (q d : ℕ) → q * 2 < d → closest q d ≡ 0
+closest-zero q d h =
+    ap (λ (w : ℕ). nearest w (compare (q % d * 2) d)) (div-eq-of-lt (omega arith))
+    ∙ ap (λ (m : ℕ). nearest 0 (compare (m * 2) d)) (mod-eq-of-lt (omega arith))
+    ∙ go (compare (q * 2) d) (cmp (q * 2) d)
+  where
+    go : (o : Ordering) → Cmp o (q * 2) d → nearest 0 o ≡ 0
+    go Ordering·lt c = refl
+    go Ordering·eq c = absurd (lt-irrefl d (subst (λ (z : ℕ). z < d) c h))
+    go Ordering·gt c = absurd (lt-irrefl d (lt-trans c h))
+
+-- ---- the code's sum: what is above 896 * 2 ^ 52 in the pattern, its last 29 digits rounded off
+abbrev pub cut : ℕ → ℕ
+cut u = (u + 268435455 + u / 536870912 % 2) / 536870912
+
+cut-is : (r : ℕ) → 4039728865751334912 ≤ r
+    → (r / 4503599627370496 - 1 - 896) * 8388608 + closest (4503599627370496 + r % 4503599627370496) 536870912 ≡ cut (r - 4035225266123964416)
+cut-is r h =
+    let i = (r / 4503599627370496 - 897) * 4194304 in
+    let q = 4503599627370496 + r % 4503599627370496 in
+    let e : i * 2 * 536870912 + q ≡ r - 4035225266123964416 = omega arith in
+    let f : (r / 4503599627370496 - 1 - 896) * 8388608 ≡ i * 2 = omega arith in
+    ap (λ (z : ℕ). z + closest q 536870912) f ∙ sym (closest-more i q 536870912 (lit< tt)) ∙ ap (λ (z : ℕ). closest z 536870912) e ∙ closest-div (r - 4035225266123964416) 268435456 (lit< tt)
+
+at-inf : (s : Bool) → toBits binary32 (narrowed (ofFields binary64 s 2047 0)) ≡ cond s 2147483648 0 + 2139095040
+unfolding toBits narrowed
+at-inf s = ap (λ (v : Float). toBits binary32 (narrowed v)) (last s)
+
+-- a subnormal
+none : (s : Bool) (t : ℕ) → t < 4503599627370496 → toBits binary32 (narrowed (ofFields binary64 s 0 t)) ≡ cond s 2147483648 0 + 0
+none s t h =
+    ap (λ (v : Float). toBits binary32 (narrowed v)) (first s t)
+    ∙ ap (toBits binary32)
+    (narrow-odd s t 0 896 0 (omega arith) refl (inl refl) ∙ ap (λ (z : ℕ). units binary32 s z 0) (closest-zero t (2 ^ 925) (lt-trans (shl-lt 52 1 h) (lit< tt))))
+    ∙ units-under s 0 0 (lit≤ tt) (inl refl) (lit< tt)
+
+-- ---- the four finite cases, in the code's words. r is the pattern without its sign
+abbrev pub body : ℕ → ℕ
+body b = b % 9223372036854775808
+
+abbrev pub expo : ℕ → ℕ
+expo b = body b / 4503599627370496
+
+abbrev pub digs : ℕ → ℕ
+digs b = body b % 4503599627370496
+
+neg64 : ℕ → Bool
+neg64 b = leb 9223372036854775808 b
+
+-- by its fields x and t
+abbrev At : Bool → ℕ → ℕ → ℕ
+At s x t = toBits binary32 (narrowed (ofFields binary64 s x t))
+
+digs-lt : (b : ℕ) → digs b < 4503599627370496
+digs-lt b = mod-lt (body b) (lit< tt)
+
+module _ (b : ℕ) (B : b < 18446744073709551616) where
+  read : (x : ℕ) → expo b ≡ x → answer b ≡ At (neg64 b) x (digs b)
+  unfolding neg64
+  read x e = ap (λ (v : Float). toBits binary32 (narrowed v)) (of64 b) ∙ ap (λ (t : ℕ). At (neg64 b) (expo b) t) (sym (mod-mod-pow b 11 52)) ∙ ap (λ (z : ℕ). At (neg64 b) z (digs b)) e
+
+  signed : (z : ℕ) → cond (neg64 b) 2147483648 0 + z ≡ sgn b + z
+  unfolding neg64
+  signed z = ap (λ (w : ℕ). w + z) (sign-is b B)
+
+  pub at-under : 4039728865751334912 ≤ body b → cut (body b - 4035225266123964416) < 2139095040 → answer b ≡ sgn b + cut (body b - 4035225266123964416)
+  at-under l h =
+      let c = cut-is (body b) l in
+      read (suc (expo b - 1)) (omega arith)
+      ∙ normal-under (neg64 b) (digs b) (expo b - 1) (digs-lt b) (omega arith) (subst (λ (z : ℕ). z < 2139095040) (sym c) h)
+      ∙ ap (λ (z : ℕ). cond (neg64 b) 2147483648 0 + z) c
+      ∙ signed (cut (body b - 4035225266123964416))
+
+  pub at-over : 4039728865751334912 ≤ body b → body b ≤ 9218868437227405312 → 2139095040 ≤ cut (body b - 4035225266123964416) → answer b ≡ sgn b + 2139095040
+  at-over l m h = go (eq-or-lt-of-le m) ∙ signed 2139095040
+    where
+      go : (body b ≡ 9218868437227405312) ⊎ (body b < 9218868437227405312) → answer b ≡ cond (neg64 b) 2147483648 0 + 2139095040
+      go (inl e) = read 2047 (ap (λ (z : ℕ). z / 4503599627370496) e) ∙ ap (λ (z : ℕ). At (neg64 b) 2047 (z % 4503599627370496)) e ∙ at-inf (neg64 b)
+      go (inr k) =
+          read (suc (expo b - 1)) (omega arith)
+          ∙ normal-over (neg64 b) (digs b) (expo b - 1) (digs-lt b) (omega arith) (omega arith) (subst (λ (z : ℕ). 2139095040 ≤ z) (sym (cut-is (body b) l)) h)
+
+  pub at-tiny : 871 ≤ expo b → expo b < 897 → answer b ≡ sgn b + closest (4503599627370496 + digs b) (2 ^ (925 - expo b + 1))
+  at-tiny l h =
+      read (suc (expo b - 1)) (omega arith)
+      ∙ tiny (neg64 b) (digs b) (expo b - 1) (digs-lt b) (897 - expo b) (omega arith) (omega arith)
+      ∙ ap (λ (z : ℕ). cond (neg64 b) 2147483648 0 + closest (4503599627370496 + digs b) (2 ^ z)) (omega arith)
+      ∙ signed (closest (4503599627370496 + digs b) (2 ^ (925 - expo b + 1)))
+
+  pub at-zero : expo b < 871 → answer b ≡ sgn b
+  at-zero h = go (expo b) refl ∙ signed 0 ∙ add-zero (sgn b)
+    where
+      go : (x : ℕ) → expo b ≡ x → answer b ≡ cond (neg64 b) 2147483648 0 + 0
+      go zero e = read 0 e ∙ none (neg64 b) (digs b) (digs-lt b)
+      go (suc y) e =
+          read (suc y) e
+          ∙ tiny (neg64 b) (digs b) y (digs-lt b) (896 - y) (omega arith) (omega arith)
+          ∙ ap (λ (z : ℕ). cond (neg64 b) 2147483648 0 + z) (closest-zero (4503599627370496 + digs b) (2 ^ (29 + (896 - y)))
+          (lt-of-lt-of-le (shl-lt 53 1 (q-lt (neg64 b) (digs b) y (digs-lt b))) (pow-mono {i = 54} {j = 29 + (896 - y)} (omega arith))))
+
+  pub tiny-small : expo b < 897 → closest (4503599627370496 + digs b) (2 ^ (925 - expo b + 1)) ≤ 8388608
+  tiny-small h = subst (λ (z : ℕ). closest (4503599627370496 + digs b) (2 ^ z) ≤ 8388608) (omega arith) (tiny-le (neg64 b) (digs b) 0 (digs-lt b) (897 - expo b) (omega arith))

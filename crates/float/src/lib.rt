@@ -1,0 +1,158 @@
+// Floats: f64 to f32 and back, bit patterns for every float, the test for 0..1 and the clamp.
+ghost use mathlib.Core.Path.{_≡_};
+ghost use lib.Dec.{T};
+ghost use Prim.Native.Nat.{_+_, _^_, _<_, _≤_};
+ghost use lib.Ieee.Nearest.{closest};
+ghost use Rattle.float.specs.Narrowed.{NarrowSays, NarrowBitsSays};
+ghost use Rattle.float.specs.Within.{number, WithinSays, AllWithinSays, AllNumbersSays};
+ghost use Rattle.float.specs.Clamped.{Clamp01Says};
+ghost use Rattle.float.specs.Patterns.{Bits32Says, Bits64Says, OfBits32Says, OfBits64Says, WidenSays, WidenNumberSays};
+
+// The pattern of an f32 from that of an f64, rounded to the nearest, ties to even. A NaN's gives 7FC00000.
+// Divisions by constants, not shifts: the compiler makes shifts of them, and the prover's arithmetic reads them.
+pub fn narrow_bits(b: u64) -> u32
+    ensures { λ r. ⌜ NarrowBitsSays b r ⌝ }
+{
+    let sign = (b / 0x8000_0000_0000_0000) * 0x8000_0000;
+    let r = b % 0x8000_0000_0000_0000;
+    if 0x3810_0000_0000_0000 <= r {
+        if 0x7ff0_0000_0000_0000 < r {
+            return 0x7fc0_0000;
+        }
+        // 896 off the exponent, and the last 29 digits rounded off: a carry goes into the exponent
+        let u = r - 0x3800_0000_0000_0000;
+        let a = (u + 0x0fff_ffff + u / 0x2000_0000 % 2) / 0x2000_0000;
+        if a < 0x7f80_0000 {
+            return (sign + a) as u32;
+        }
+        return (sign + 0x7f80_0000) as u32;
+    }
+    // an f32 below its normal range: the digits, with the leading one, shifted
+    let x = r / 0x10_0000_0000_0000;
+    if x < 871 {
+        return sign as u32;
+    }
+    let q = 0x10_0000_0000_0000 + r % 0x10_0000_0000_0000;
+    (sign + closest_shift(q, 925 - x)) as u32
+}
+
+// q / 2^(k + 1), rounded to the nearest whole number, a tie to the even one.
+fn closest_shift(q: u64, k: u64) -> u64
+    requires { ⌜ (q < 2 ^ 53) × (k ≤ 62) ⌝ }
+    ensures { λ r. ⌜ r ≡ closest q (2 ^ (k + 1)) ⌝ }
+{
+    let h = 1u64 << k;
+    (q + (h - 1) + (q >> (k + 1)) % 2) >> (k + 1)
+}
+
+// x as an f32, rounded to the nearest, ties to even: Rust's `x as f32`. A NaN gives a NaN.
+pub fn narrow(x: f64) -> f32
+    ensures { λ r. ⌜ NarrowSays x r ⌝ }
+{
+    if x != x {
+        return 0.0 / 0.0;
+    }
+    f32::from_bits(narrow_bits(f64::to_bits(x)))
+}
+
+// x as an f64, also where it is a NaN.
+pub fn widen(x: f32) -> f64
+    ensures { λ r. ⌜ WidenSays x r ⌝ }
+{
+    std::num::f32_to_f64_with_nan(x)
+}
+
+// The same without a test, for a caller that knows that x is no NaN.
+pub fn widen_number(x: f32) -> f64
+    requires { ⌜ T (number x) ⌝ }
+    ensures { λ r. ⌜ WidenNumberSays x r ⌝ }
+{
+    x as f64
+}
+
+// Within 0..1: -0.0 is, a NaN is not.
+pub fn within(x: f32) -> bool
+    ensures { λ r. ⌜ WithinSays x r ⌝ }
+{
+    (0.0 <= x) & (x <= 1.0)
+}
+
+// Every element is within 0..1. The loop has no way out, so that it is vectorised.
+pub fn all_within(xs: &[f32]) -> bool
+    ensures { λ r. ⌜ AllWithinSays (now (xs .entry)) r ⌝ }
+{
+    let mut ok = true;
+    let mut i = 0;
+    while i < xs.len() {
+        ok = ok & within(xs[i]);
+        i += 1;
+    }
+    ok
+}
+
+// No element is a NaN. The loop has no way out, so that it is vectorised.
+pub fn all_numbers(xs: &[f32]) -> bool
+    ensures { λ r. ⌜ AllNumbersSays (now (xs .entry)) r ⌝ }
+{
+    let mut ok = true;
+    let mut i = 0;
+    while i < xs.len() {
+        let x = xs[i];
+        ok = ok & (x == x);
+        i += 1;
+    }
+    ok
+}
+
+// Below 0 becomes 0, above 1 becomes 1; a NaN and -0.0 stay.
+pub fn clamp01(x: f64) -> f64
+    ensures { λ r. ⌜ Clamp01Says x r ⌝ }
+{
+    if x < 0.0 {
+        return 0.0;
+    }
+    if x > 1.0 {
+        return 1.0;
+    }
+    x
+}
+
+// The pattern of x; 7FC00000 for a NaN.
+pub fn bits32(x: f32) -> u32
+    ensures { λ r. ⌜ Bits32Says x r ⌝ }
+{
+    if x != x {
+        return 0x7fc0_0000;
+    }
+    f32::to_bits(x)
+}
+
+// The pattern of x; 7FF8000000000000 for a NaN.
+pub fn bits64(x: f64) -> u64
+    ensures { λ r. ⌜ Bits64Says x r ⌝ }
+{
+    if x != x {
+        return 0x7ff8_0000_0000_0000;
+    }
+    f64::to_bits(x)
+}
+
+// The f32 with the pattern b; a NaN for a NaN's.
+pub fn of_bits32(b: u32) -> f32
+    ensures { λ r. ⌜ OfBits32Says b r ⌝ }
+{
+    if 0x7f80_0000 < b % 0x8000_0000 {
+        return 0.0 / 0.0;
+    }
+    f32::from_bits(b)
+}
+
+// The f64 with the pattern b; a NaN for a NaN's.
+pub fn of_bits64(b: u64) -> f64
+    ensures { λ r. ⌜ OfBits64Says b r ⌝ }
+{
+    if 0x7ff0_0000_0000_0000 < b % 0x8000_0000_0000_0000 {
+        return 0.0 / 0.0;
+    }
+    f64::from_bits(b)
+}
