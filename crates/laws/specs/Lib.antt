@@ -20,3 +20,9 @@ pub mod Index
 pub mod Fill
 pub mod Every
 pub mod EveryLaws
+-- Ordered sums, and tables of them.
+pub mod F64
+pub mod Before
+pub mod BeforeLaws
+pub mod RowSums
+pub mod RowSumLaws
