@@ -14,6 +14,9 @@ pub mod Bools
 pub mod Ends
 pub mod EndsLaws
 pub mod Runs
+pub mod RunsLaws
+pub mod Blank
+pub mod Answer
 pub mod Rows
 pub mod RowLaws
 pub mod Index
