@@ -29,3 +29,8 @@ pub mod Before
 pub mod BeforeLaws
 pub mod RowSums
 pub mod RowSumLaws
+-- Pictures as lists.
+pub mod F32
+pub mod Pictures
+pub mod PictureLaws
+pub mod AnswerLaws
