@@ -33,4 +33,6 @@ pub mod RowSumLaws
 pub mod F32
 pub mod Pictures
 pub mod PictureLaws
+pub mod Strokes
+pub mod StrokeLaws
 pub mod AnswerLaws
