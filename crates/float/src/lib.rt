@@ -95,11 +95,11 @@ pub fn all_numbers(xs: &[f32]) -> bool
     ensures { λ r. ⌜ AllNumbersSays (now (xs .entry)) r ⌝ }
 {
     let mut ok = true;
-    let mut i = 0;
-    while i < xs.len() {
-        let x = xs[i];
+    let mut k = 0;
+    while k < xs.len() {
+        let x = xs[k];
         ok = ok & (x == x);
-        i += 1;
+        k += 1;
     }
     ok
 }

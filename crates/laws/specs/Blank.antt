@@ -4,5 +4,8 @@ use mathlib.Core.List.{List}
 use Prim.Native.Nat.{ℕ}
 use lib.ListN.{replicate}
 
+unfoldable pub blank : List ℕ
+blank = replicate 512 0
+
 abbrev pub Blank : List ℕ → Type 0
-Blank out = out ≡ replicate 512 0
+Blank out = out ≡ blank

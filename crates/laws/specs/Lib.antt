@@ -14,19 +14,28 @@ pub mod Bools
 pub mod Ends
 pub mod EndsLaws
 pub mod Runs
-pub mod RunsLaws
 pub mod Blank
 pub mod Answer
+pub mod Holds
+pub mod RunLaws
+pub mod RunPlaces
 pub mod Rows
 pub mod RowLaws
+pub mod Tab
+pub mod TabLaws
 pub mod Index
 pub mod Fill
 pub mod Every
 pub mod EveryLaws
+-- Lists of calls.
+pub mod Calls
+pub mod CallLaws
 -- Ordered sums, and tables of them.
 pub mod F64
 pub mod Before
 pub mod BeforeLaws
+pub mod PixelSums
+pub mod PixelSumLaws
 pub mod RowSums
 pub mod RowSumLaws
 -- Pictures as lists.

@@ -5,8 +5,9 @@ use mathlib.Core.List.{List, [], _∷_}
 use Prim.Native.Nat.{ℕ, _≤_}
 use lib.ListN.{length, getD, replicate}
 use lib.IntN.{ℤ, pos, _-ℤ_, _*ℤ_}
-use lib.Signed.{leZ, ltZ}
+use lib.Signed.{_≤ℤ_, leZ, ltZ}
 use Rattle.laws.specs.Bound.{Bounded}
+use Rattle.whole.specs.Whole.{lesser, greater}
 use Rattle.laws.specs.Runs.{allHold, runsOf}
 
 pub record Point : Type 0 where
@@ -64,12 +65,6 @@ abbrev pub polygonPixel : List Point → ℕ → ℕ → Bool
 polygonPixel v x y = polygon v (at (pos x) (pos y))
 
 -- the lowest and the highest of a list, for the row reach; of no number, 0
-abbrev pub lesser : ℤ → ℤ → ℤ
-lesser a b = cond (leZ a b) a b
-
-abbrev pub greater : ℤ → ℤ → ℤ
-greater a b = cond (leZ a b) b a
-
 unfoldable pub leastOf : List ℤ → ℤ
 leastOf [] = pos 0
 leastOf (a ∷ []) = a
@@ -80,6 +75,13 @@ greatestOf [] = pos 0
 greatestOf (a ∷ []) = a
 greatestOf (a ∷ b ∷ r) = greater a (greatestOf (b ∷ r))
 
+-- between the lowest and the highest corner row, and between the leftmost and the rightmost corner column
+pub record InBox (xs ys : List ℤ) (p : Point) : Type 0 where
+  pub top : leastOf ys ≤ℤ p .py
+  pub bottom : p .py ≤ℤ greatestOf ys
+  pub left : leastOf xs ≤ℤ p .px
+  pub right : p .px ≤ℤ greatestOf xs
+
 -- ---- what fill_runs asks and promises
 -- three corners or more, within the coordinate range
 pub record InRange (xs ys : List ℤ) : Type 0 where
@@ -88,12 +90,6 @@ pub record InRange (xs ys : List ℤ) : Type 0 where
   pub x : (i : ℕ) → Bounded 8191 (getD xs i (pos 0))
   pub y : (i : ℕ) → Bounded 8191 (getD ys i (pos 0))
 
-pub record Sized (w h : ℕ) : Type 0 where
-  pub w-least : 1 ≤ w
-  pub w-most : w ≤ 256
-  pub h-least : 1 ≤ h
-  pub h-most : h ≤ 256
-
 -- no run is written yet
 abbrev pub Blank : List ℕ → Type 0
 Blank out = out ≡ replicate 512 0
@@ -101,3 +97,8 @@ Blank out = out ≡ replicate 512 0
 -- what is lent ends as the runs of the covered pixels, all 256 rows
 abbrev pub FillRunsSays : List ℤ → List ℤ → ℕ → ℕ → List ℕ → Type 0
 FillRunsSays xs ys w h after = after ≡ runsOf (polygonPixel (corners xs ys)) w h
+
+-- what extent_of promises
+pub record ExtentOfSays (zs : List ℤ) (least greatest : ℤ) : Type 0 where
+  pub low : least ≡ leastOf zs
+  pub high : greatest ≡ greatestOf zs

@@ -13,10 +13,10 @@ use Rattle.float.proofs.all_numbers.Statement.{statement}
 use Rattle.float.proofs.all_numbers.Tie as tie
 
 abbrev Inv-loop : tie.InvT-loop
-Inv-loop xs ok₀ i₀ ok i = (i ≤ length xs) × (ok ≡ every number (take i xs))
+Inv-loop xs ok₀ k₀ ok k = (k ≤ length xs) × (ok ≡ every number (take k xs))
 
 abbrev μ-loop : tie.MeasureT-loop
-μ-loop xs ok₀ i₀ ok i = length xs - i
+μ-loop xs ok₀ k₀ ok k = length xs - k
 
 loop-holds : tie.Need-loop-holds Inv-loop μ-loop
 unfolding every
@@ -28,8 +28,8 @@ mul-x c = search needs
 shared-slice-read-x : tie.Need-shared-slice-read-x Inv-loop μ-loop
 shared-slice-read-x c = search needs
 
-add-i : tie.Need-add-i Inv-loop μ-loop
-add-i c = search needs
+add-k : tie.Need-add-k Inv-loop μ-loop
+add-k c = search needs
 
 loop-less : tie.Need-loop-less Inv-loop μ-loop
 loop-less c = search needs
@@ -37,11 +37,11 @@ loop-less c = search needs
 loop-again : tie.Need-loop-again Inv-loop μ-loop
 loop-again c =
     let l = c .before .before in
-    let x = getD (l .before .args .xs .now) (l .loop .i) nan in
-    (search needs, every-step number (l .before .args .xs .now) (l .loop .i) nan (l .loop .ok) (eq x x) (c .before .loop-test .taken) (l .loop .inv .1) (itself-number x))
+    let x = getD (l .before .args .xs .now) (l .loop .k) nan in
+    (search needs, every-step number (l .before .args .xs .now) (l .loop .k) nan (l .loop .ok) (eq x x) (c .before .loop-test .taken) (l .loop .inv .1) (itself-number x))
 
 returns : tie.Need-returns Inv-loop μ-loop
-returns c = every-end number (c .before .before .args .xs .now) (c .before .loop .i) (c .before .loop .ok) (omega arith) (c .before .loop .inv .1)
+returns c = every-end number (c .before .before .args .xs .now) (c .before .loop .k) (c .before .loop .ok) (omega arith) (c .before .loop .inv .1)
 
 pub all-numbers-spec : {M : Type 1} → statement M
 all-numbers-spec =
@@ -52,7 +52,7 @@ all-numbers-spec =
     loop-holds
     mul-x
     shared-slice-read-x
-    add-i
+    add-k
     loop-less
     loop-again
     returns)
