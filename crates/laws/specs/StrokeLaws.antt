@@ -1,24 +1,24 @@
 -- Laws: painting by runs. A part of a list that was lent and came back; a run mixed in parts; a picture recoloured row by row. Over any kind of value.
 use mathlib.Core.Path.{_≡_, refl, sym, ap, _∙_, subst}
 use mathlib.Core.Bool.{Bool, true, false, _&&_, cond}
-use mathlib.Core.List.{List, [], _∷_, _++_, append-assoc}
+use mathlib.Core.List.{List, _++_, append-assoc}
 use mathlib.Core.Logic.{_⊎_, inl, inr, ⊎-elim}
-use Prim.Native.Nat.{ℕ, zero, suc, _+_, _-_, _*_, _/_, _%_, _≤_, _<_}
-use native.Mathlib.Nat.{mul-le-mul-right}
+use Prim.Native.Nat.{ℕ, _+_, _-_, _*_, _%_, _≤_, _<_}
 use native.Mathlib.Decide.{decLe}
 use native.Mathlib.Omega.{arith}
 use lib.Dec.{leb, ltb}
-use lib.ListN.{length, take, drop, getD, length-take, length-drop, length-append, take-append-drop, List·getD-append}
+use lib.ListN.{length, take, drop, getD, length-drop, List·getD-append}
 use lib.Seq.{ext-getD, take-at, drop-at, take-add, drop-drop, length-take-le, getD-take, getD-drop, getD-append-add}
 use borrow.Author.Tests.{lt-ltb, le-ltb, le-leb, lt-leb}
 use borrow.Rule.Slice.PartMut.{putMid, same-len-mid}
 use Rattle.laws.specs.Fill.{fill}
 use Rattle.laws.specs.Index.{index-mod}
-use Rattle.laws.specs.RowLaws.{row-le, length-part}
-use Rattle.laws.specs.RowSums.{Picture, pictureOf}
-use Rattle.laws.specs.Pictures.{tab, listOf, recoloured}
-use Rattle.laws.specs.PictureLaws.{length-tab, tab-at, length-list, list-at, list-is, number-in}
-use Rattle.laws.specs.Strokes.{runLeft, runRight, RunsWithin, inRuns, stroked}
+use Rattle.laws.specs.RowLaws.{row-le}
+use Rattle.laws.specs.TabLaws.{length-tab, getD-tab}
+use Rattle.laws.specs.RowSums.{pictureOf}
+use Rattle.laws.specs.Pictures.{listOf, recoloured}
+use Rattle.laws.specs.PictureLaws.{length-list, list-at, list-is}
+use Rattle.laws.specs.Strokes.{runLeft, runRight, inRuns, stroked}
 
 module _ {P : Type 0} where
   -- ---- a part lent as `&mut l[a..a + k]` came back as r, by its elements
@@ -67,7 +67,7 @@ module _ {P : Type 0} where
 
     pub stroked-at : (p : List P) (i : ℕ) (z : P) → i < length p → getD (stroked d mix p) i z ≡ mix (i % 3) (getD p i d)
     unfolding stroked
-    stroked-at p i z l = tab-at (λ i. mix (i % 3) (getD p i d)) (length p) i z l
+    stroked-at p i z l = getD-tab (λ i. mix (i % 3) (getD p i d)) (length p) i z l
 
     -- a part that begins with a pixel
     pub stroked-part : (p : List P) (q k : ℕ) → q * 3 + k ≤ length p → stroked d mix (take k (drop (q * 3) p)) ≡ take k (drop (q * 3) (stroked d mix p))

@@ -1,15 +1,24 @@
-// Pictures: fill, mean and total.
+// Pictures: fill, mean, total, and shapes blended into them.
 ghost use mathlib.Core.Path.{_≡_};
+ghost use mathlib.Core.Bool.{false};
 ghost use Prim.Native.Nat.{_+_, _*_, _^_, _<_, _≤_};
 ghost use lib.Dec.{T};
 ghost use lib.IntN.{pos};
+ghost use lib.Signed.{_≤ℤ_, _<ℤ_};
 ghost use lib.Ieee.{binary64, ofInt};
 ghost use lib.ListN.{length};
 ghost use Rattle.laws.specs.F64.{_⊘_};
+ghost use Rattle.laws.specs.Strokes.{RunsWithin};
 ghost use Rattle.float.specs.Narrowed.{narrowed};
 ghost use Rattle.float.specs.Within.{number, within, allWithin};
 ghost use Rattle.refusal.specs.Refusals.{Sized};
+ghost use Rattle.cover.specs.Cover.{badPlaces};
+ghost use Rattle.picture.specs.Painting.{BlendSays};
+ghost use Rattle.picture.specs.Strokes.{brushedRows, RowsOf};
 ghost use Rattle.picture.specs.Pixels.{BadColourSays, FillSays, FilledCanvasSays, fillRefusal, MeanRgbSays, meanOf, meanRefusal, SseTotalSays, squaredDifference, totalRefusal, TotalAnySays, TotalWithinSays};
+use brush::Brush;
+use cover::Kind;
+use cover::Reach;
 
 pub struct Colour {
     pub red: f32,
@@ -201,4 +210,67 @@ fn squared_any(t: f32, c: f32) -> f64
 {
     let d = float::widen(t - c);
     d * d
+}
+
+// ---- painting
+
+// Rows first up to end, end left out.
+struct Rows {
+    first: usize,
+    end: usize,
+}
+
+// Every covered channel becomes m * old + a * colour, m = 1 - a, in f32; all others stay. For any picture, opacity and
+// colour bits. Sizes, places and the picture's length were tested.
+pub fn blend(
+    kind: Kind,
+    opacity: f32,
+    red: f32,
+    green: f32,
+    blue: f32,
+    w: usize,
+    h: usize,
+    canvas: &mut [f32],
+)
+    requires sizes { ⌜ Sized w h ⌝ }
+    requires places { ⌜ badPlaces kind ≡ false ⌝ }
+    requires picture { ⌜ length (now canvas) ≡ h * w * 3 ⌝ }
+    ensures { λ _. ⌜ BlendSays kind opacity red green blue w h (now (canvas .entry)) (now (canvas .exit)) ⌝ }
+{
+    let mut runs = [0u16; 512];
+    cover::runs(kind, w, h, &mut runs);
+    let reach = cover::row_reach(kind, h);
+    let rows = rows_of(reach, h);
+    let brush = brush::brush_of(opacity, red, green, blue);
+    blend_rows(brush, &runs, rows, w, h, canvas);
+}
+
+// The rows of a reach, none where it is empty.
+fn rows_of(reach: Reach, h: usize) -> Rows
+    requires { ⌜ (h ≤ 256) × (pos 0 ≤ℤ reach .first) × (reach .last <ℤ pos h) ⌝ }
+    ensures { λ r. ⌜ RowsOf reach h r ⌝ }
+{
+    if reach.last < reach.first {
+        return Rows { first: 0, end: 0 };
+    }
+    Rows {
+        first: reach.first as usize,
+        end: reach.last as usize + 1,
+    }
+}
+
+fn blend_rows(brush: Brush, runs: &[u16; 512], rows: Rows, w: usize, h: usize, canvas: &mut [f32])
+    requires sizes { ⌜ Sized w h ⌝ }
+    requires rows { ⌜ (rows .first ≤ rows .end) × (rows .end ≤ h) ⌝ }
+    requires runs { ⌜ RunsWithin w h (now runs) ⌝ }
+    requires picture { ⌜ length (now canvas) ≡ h * w * 3 ⌝ }
+    ensures { λ _. ⌜ now (canvas .exit) ≡ brushedRows brush (now (runs .entry)) (rows .first) (rows .end) w h (now (canvas .entry)) ⌝ }
+{
+    for y in rows.first..rows.end {
+        let left = runs[y * 2] as usize;
+        let right = runs[y * 2 + 1] as usize;
+        let a = (y * w + left) * 3;
+        let e = (y * w + right) * 3;
+        brush::blend_run(brush, right - left, &mut canvas[a..e]);
+    }
 }
