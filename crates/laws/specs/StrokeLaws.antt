@@ -111,9 +111,9 @@ module _ (runs : List ℕ) (lo : ℕ) where
   other-row y x z (inr l) = rw (le-ltb z y (omega arith), le-ltb z (y + 1) (omega arith)) refl
 
   -- in a row among them: those of its run
-  pub in-run : (y x z : ℕ) → lo ≤ z → z < y → runLeft runs z ≤ x → x < runRight runs z → inRuns runs lo y x z ≡ true
+  pub on-run : (y x z : ℕ) → lo ≤ z → z < y → runLeft runs z ≤ x → x < runRight runs z → inRuns runs lo y x z ≡ true
   unfolding inRuns
-  in-run y x z a b c d = rw (le-leb lo z a, lt-ltb z y b, le-leb (runLeft runs z) x c, lt-ltb x (runRight runs z) d) refl
+  on-run y x z a b c d = rw (le-leb lo z a, lt-ltb z y b, le-leb (runLeft runs z) x c, lt-ltb x (runRight runs z) d) refl
 
   pub off-run : (y x z : ℕ) → (x < runLeft runs z) ⊎ (runRight runs z ≤ x) → inRuns runs lo y x z ≡ false
   unfolding inRuns
@@ -126,7 +126,7 @@ apart a b = elim (decLe a b) [
   | yes p ↦ elim (decLe b a) [ yes q ↦ inr (inl (omega arith)) | no q ↦ inl (omega arith) ]
 ]
 
-le-or-lt : (a b : ℕ) → (a ≤ b) ⊎ (b < a)
+pub le-or-lt : (a b : ℕ) → (a ≤ b) ⊎ (b < a)
 le-or-lt a b = elim (decLe a b) [ yes p ↦ inl p | no p ↦ inr (omega arith) ]
 
 -- ---- a picture recoloured row by row
@@ -213,7 +213,7 @@ module _ {P : Type 0} (d : P) (mix : ℕ → P → P) (w h : ℕ) (old : List P)
           on ((y * w + x) * 3 + ch) (omega arith) (omega arith)
           ∙ ap (λ (n : ℕ). mix n (getD (upTo y) ((y * w + x) * 3 + ch) d)) (index-mod 3 (y * w + x) ch c)
           ∙ ap (mix ch) (was ch y x c below m ∙ same-test (inRuns runs lo y) (λ x y. false) ch y x (not-yet runs lo y x y (omega arith)))
-          ∙ sym (same-test (inRuns runs lo (y + 1)) (λ x y. true) ch y x (in-run runs lo (y + 1) x y from (omega arith) p q)))
+          ∙ sym (same-test (inRuns runs lo (y + 1)) (λ x y. true) ch y x (on-run runs lo (y + 1) x y from (omega arith) p q)))
           (le-or-lt (runRight runs y) x))
           (λ (p : x < runLeft runs y). beside (inl p))
           (le-or-lt (runLeft runs y) x)

@@ -4,3 +4,4 @@ pub mod Painting
 pub mod Strokes
 -- What follows.
 pub mod PixelLaws
+pub mod PaintingLaws

@@ -14,7 +14,7 @@ ghost use Rattle.float.specs.Within.{number, within, allWithin};
 ghost use Rattle.refusal.specs.Refusals.{Sized};
 ghost use Rattle.cover.specs.Cover.{badPlaces};
 ghost use Rattle.picture.specs.Painting.{BlendSays};
-ghost use Rattle.picture.specs.Strokes.{brushedRows, RowsOf};
+ghost use Rattle.picture.specs.Strokes.{brushedPart, brushedRows, RowsOf};
 ghost use Rattle.picture.specs.Pixels.{BadColourSays, FillSays, FilledCanvasSays, fillRefusal, MeanRgbSays, meanOf, meanRefusal, SseTotalSays, squaredDifference, totalRefusal, TotalAnySays, TotalWithinSays};
 use brush::Brush;
 use cover::Kind;
@@ -240,22 +240,22 @@ pub fn blend(
     let mut runs = [0u16; 512];
     cover::runs(kind, w, h, &mut runs);
     let reach = cover::row_reach(kind, h);
-    let rows = rows_of(reach, h);
+    let rows = rows_of(reach.first, reach.last, h);
     let brush = brush::brush_of(opacity, red, green, blue);
     blend_rows(brush, &runs, rows, w, h, canvas);
 }
 
-// The rows of a reach, none where it is empty.
-fn rows_of(reach: Reach, h: usize) -> Rows
-    requires { ⌜ (h ≤ 256) × (pos 0 ≤ℤ reach .first) × (reach .last <ℤ pos h) ⌝ }
-    ensures { λ r. ⌜ RowsOf reach h r ⌝ }
+// Rows first to last, both inclusive; none where first is above last.
+fn rows_of(first: i32, last: i32, h: usize) -> Rows
+    requires { ⌜ (h ≤ 256) × (pos 0 ≤ℤ first) × (last <ℤ pos h) ⌝ }
+    ensures { λ r. ⌜ RowsOf first last h r ⌝ }
 {
-    if reach.last < reach.first {
+    if last < first {
         return Rows { first: 0, end: 0 };
     }
     Rows {
-        first: reach.first as usize,
-        end: reach.last as usize + 1,
+        first: first as usize,
+        end: last as usize + 1,
     }
 }
 
@@ -269,8 +269,16 @@ fn blend_rows(brush: Brush, runs: &[u16; 512], rows: Rows, w: usize, h: usize, c
     for y in rows.first..rows.end {
         let left = runs[y * 2] as usize;
         let right = runs[y * 2 + 1] as usize;
-        let a = (y * w + left) * 3;
-        let e = (y * w + right) * 3;
-        brush::blend_run(brush, right - left, &mut canvas[a..e]);
+        blend_row(brush, left, right, y * w, canvas);
     }
+}
+
+// Pixels left up to right of the row that begins with pixel `start`.
+fn blend_row(brush: Brush, left: usize, right: usize, start: usize, canvas: &mut [f32])
+    requires { ⌜ (left ≤ right) × ((start + right) * 3 ≤ length (now canvas)) ⌝ }
+    ensures { λ _. ⌜ now (canvas .exit) ≡ brushedPart brush ((start + left) * 3) ((start + right) * 3) (now (canvas .entry)) ⌝ }
+{
+    let a = (start + left) * 3;
+    let e = (start + right) * 3;
+    brush::blend_run(brush, right - left, &mut canvas[a..e]);
 }
