@@ -16,6 +16,7 @@ pub mod EndsLaws
 pub mod Runs
 pub mod Blank
 pub mod Answer
+pub mod AnswerLaws
 pub mod Holds
 pub mod RunLaws
 pub mod RunPlaces
@@ -44,4 +45,3 @@ pub mod Pictures
 pub mod PictureLaws
 pub mod Strokes
 pub mod StrokeLaws
-pub mod AnswerLaws
