@@ -1,58 +1,43 @@
 -- Laws: the steps of painting by runs, and that they are the rule; what painting leaves as it was; pictures within 0..1 stay so; the promise has one answer.
-use mathlib.Core.Path.{_≡_, refl, sym, ap, _∙_}
+use mathlib.Core.Path.{_≡_, refl, sym, ap, _∙_, subst}
 use mathlib.Core.Bool.{Bool, true, false, cond}
 use mathlib.Core.List.{List}
 use Prim.Native.Nat.{ℕ, zero, suc, _+_, _-_, _*_, _≤_, _<_}
 use native.Mathlib.Omega.{arith}
 use mathlib.Core.Logic.{_⊎_, inl, inr, ⊎-elim}
-use lib.IntN.{ℤ, pos, _-ℤ_}
-use lib.Signed.{_≤ℤ_, _<ℤ_}
+use lib.IntN.{ℤ, pos}
+use lib.Signed.{_<ℤ_}
 use lib.ListN.{length, getD}
-use Rattle.laws.specs.Parts.{zord, of-}
-use Rattle.laws.specs.Order.{≤ℤ-or-<ℤ}
 use lib.Dec.{T}
 use lib.Ieee.{Float, nan, binary32, fits}
 use Rattle.laws.specs.RowSums.{pictureOf}
-use Rattle.laws.specs.Pictures.{listOf, channelOf, recoloured}
+use Rattle.laws.specs.Pictures.{channelOf, recoloured}
 use Rattle.laws.specs.PictureLaws.{length-list, list-at, list-same, list-every, number-in}
 use Rattle.laws.specs.Strokes.{runLeft, runRight, RunsWithin, inRuns}
 use Rattle.laws.specs.StrokeLaws.{on-run, off-run, upTo, up-none, up-more, recoloured-none, le-or-lt}
+use Rattle.laws.specs.EndsLaws.{Ended, ended}
 use Rattle.laws.specs.Runs.{runsOf}
 use Rattle.laws.specs.Bools.{true-or-false}
 use Rattle.laws.specs.Fit.{no-both}
-use Rattle.whole.specs.WholeLaws.{lesser-low, lesser-high, greater-low, greater-high}
 use Rattle.refusal.specs.Refusals.{Sized}
 use Rattle.float.specs.Within.{within, allWithin}
 use Rattle.float.specs.BlendLaws.{paint-within}
 use Rattle.cover.specs.declared.Kind.{Kind}
-use Rattle.cover.specs.Cover.{covered, lowestRow, highestRow, reach}
+use Rattle.cover.specs.Cover.{covered, reach}
+use Rattle.cover.specs.declared.rows.Rows.{Rows}
+use Rattle.cover.specs.ReachRows.{reachRows}
+use Rattle.cover.specs.ReachRowsLaws.{through}
 use Rattle.cover.specs.CoverLaws.{in-run, run-bounds, not-covered}
-use Rattle.picture.specs.declared.Rows.{Rows}
 use Rattle.brush.specs.declared.Brush.{Brush}
 use Rattle.brush.specs.Brushes.{brushOf, mixed}
 use Rattle.picture.specs.Painting.{blended, painted, BlendSays}
 use Rattle.picture.specs.Pixels.{badColour}
 use Rattle.picture.specs.PixelLaws.{within-at, colour-within}
-use Rattle.picture.specs.Strokes.{brushedPart, brushedRows, RowsOf}
+use Rattle.picture.specs.Strokes.{brushedPart, brushedRows, RowsWithin}
 
 pub BlendSays-unique : (kind : Kind) (opacity red green blue : Float) (w h : ℕ) (old new also : List Float)
     → BlendSays kind opacity red green blue w h old new → BlendSays kind opacity red green blue w h old also → new ≡ also
 BlendSays-unique kind opacity red green blue w h old new also p q = p ∙ sym q
-
--- ---- the rows of a reach
-pub rows-void : (first last : ℤ) (h : ℕ) → last <ℤ first → RowsOf first last h (record { first = 0; end = 0 })
-rows-void first last h l = record {
-  order = omega arith;
-  room = omega arith;
-  rest = λ y o. ⊎-elim (λ (p : first ≤ℤ pos y). inr (omega (arith, zord))) (λ (p : pos y <ℤ first). inl p) (≤ℤ-or-<ℤ first (pos y));
-}
-
-pub rows-some : (a e h : ℕ) → pos a ≤ℤ pos e → pos e <ℤ pos h → RowsOf (pos a) (pos e) h (record { first = a; end = e + 1 })
-rows-some a e h l m = record {
-  order = omega (arith, zord);
-  room = omega (arith, zord);
-  rest = λ y o. ⊎-elim (λ (p : y < a). inl (omega (arith, zord))) (λ (p : e + 1 ≤ y). inr (omega (arith, zord))) o;
-}
 
 -- ---- row by row
 module _ (b : Brush) (runs : List ℕ) (lo w h : ℕ) (old : List Float) where
@@ -72,46 +57,47 @@ module _ (b : Brush) (runs : List ℕ) (lo w h : ℕ) (old : List Float) where
 
 -- ---- by runs and by the rule
 module _ (kind : Kind) (w h : ℕ) (s : Sized w h) where
+  abbrev top : ℕ
+  top = reachRows kind h .top
+
+  abbrev bottom : ℕ
+  bottom = reachRows kind h .bottom
+
   abbrev runs : List ℕ
   runs = runsOf (covered kind) w h
 
   pub runs-within : RunsWithin w h (runsOf (covered kind) w h)
   runs-within y l = run-bounds kind w h (s .h-high) y l
 
-  pub reach-first : pos 0 ≤ℤ reach kind h .first
-  unfolding reach
-  reach-first = ⊎-elim (λ (c : lowestRow kind ≤ℤ pos 0). rw (greater-high (lowestRow kind) (pos 0) c) (omega (arith, zord))) (λ (c : pos 0 <ℤ lowestRow kind). rw (greater-low (lowestRow kind) (pos 0) (omega (arith, zord))) (omega (arith, zord))) (≤ℤ-or-<ℤ (lowestRow kind) (pos 0))
-
-  pub reach-last : reach kind h .last <ℤ pos h
-  unfolding reach
-  reach-last = ⊎-elim (λ (c : highestRow kind ≤ℤ (pos h -ℤ pos 1)). rw (lesser-low (highestRow kind) (pos h -ℤ pos 1) c) (omega (arith, zord, of- (pos h) (pos 1)))) (λ (c : (pos h -ℤ pos 1) <ℤ highestRow kind). rw (lesser-high (highestRow kind) (pos h -ℤ pos 1) (omega (arith, zord))) (omega (arith, zord, of- (pos h) (pos 1)))) (≤ℤ-or-<ℤ (highestRow kind) (pos h -ℤ pos 1))
+  pub rows-within : RowsWithin h (reachRows kind h)
+  rows-within = let t = through kind h in record { ordered = t .ordered; inside = t .inside }
 
   -- a pixel lies in the runs of the rows that the shape reaches exactly if it is covered
-  pub in-runs : (rows : Rows) → RowsOf (reach kind h .first) (reach kind h .last) h rows → (x y : ℕ) → x < w → y < h
-      → inRuns (runsOf (covered kind) w h) (rows .first) (rows .end) x y ≡ covered kind x y
-  in-runs rows o x y k l = ⊎-elim (λ t. yes t ∙ sym t) (λ f. no f ∙ sym f) (true-or-false (covered kind x y))
+  pub in-runs : (x y : ℕ) → x < w → y < h
+      → inRuns runs top bottom x y ≡ covered kind x y
+  in-runs x y k l = ⊎-elim (λ t. yes t ∙ sym t) (λ f. no f ∙ sym f) (true-or-false (covered kind x y))
     where
       -- rows beyond the reach have no covered pixel
-      beyond : {X : Type 0} → covered kind x y ≡ true → (y < rows .first) ⊎ (rows .end ≤ y) → X
-      beyond t p = no-both t (not-covered kind w h y (s .h-high) l (o .rest y p) x)
+      beyond : {X : Type 0} → covered kind x y ≡ true → (y < top) ⊎ (bottom ≤ y) → X
+      beyond t p = no-both t (subst (Ended (λ x. covered kind x y) w) (through kind h .outside w y l p) (ended (λ x. covered kind x y) w) x k)
 
-      yes : covered kind x y ≡ true → inRuns runs (rows .first) (rows .end) x y ≡ true
+      yes : covered kind x y ≡ true → inRuns runs top bottom x y ≡ true
       yes t =
           let b = in-run kind w h (s .h-high) x y k l .1 t in
           ⊎-elim
-          (λ (p : rows .first ≤ y). ⊎-elim (λ (q : rows .end ≤ y). beyond t (inr q)) (λ (q : y < rows .end). on-run runs (rows .first) (rows .end) x y p q (b .0) (b .1)) (le-or-lt (rows .end) y))
-          (λ (p : y < rows .first). beyond t (inl p))
-          (le-or-lt (rows .first) y)
+          (λ (p : top ≤ y). ⊎-elim (λ (q : bottom ≤ y). beyond t (inr q)) (λ (q : y < bottom). on-run runs top bottom x y p q (b .0) (b .1)) (le-or-lt bottom y))
+          (λ (p : y < top). beyond t (inl p))
+          (le-or-lt top y)
 
-      no : covered kind x y ≡ false → inRuns runs (rows .first) (rows .end) x y ≡ false
+      no : covered kind x y ≡ false → inRuns runs top bottom x y ≡ false
       no f =
           ⊎-elim
           (λ (p : runLeft runs y ≤ x).
           ⊎-elim
-          (λ (q : runRight runs y ≤ x). off-run runs (rows .first) (rows .end) x y (inr q))
+          (λ (q : runRight runs y ≤ x). off-run runs top bottom x y (inr q))
           (λ (q : x < runRight runs y). no-both (in-run kind w h (s .h-high) x y k l .0 (p, q)) f)
           (le-or-lt (runRight runs y) x))
-          (λ (p : x < runLeft runs y). off-run runs (rows .first) (rows .end) x y (inl p))
+          (λ (p : x < runLeft runs y). off-run runs top bottom x y (inl p))
           (le-or-lt (runLeft runs y) x)
 
 -- a brush of the opacity and the colour mixes as the rule says
@@ -123,14 +109,23 @@ mixed-blended opacity red green blue (suc (suc ch)) old = refl
 
 module _ (kind : Kind) (opacity red green blue : Float) (w h : ℕ) (old : List Float) where
   -- what the code leaves is the rule
-  pub painted-by-runs : (s : Sized w h) (rows : Rows) → RowsOf (reach kind h .first) (reach kind h .last) h rows
-      → brushedRows (brushOf opacity red green blue) (runsOf (covered kind) w h) (rows .first) (rows .end) w h old ≡ painted kind opacity red green blue w h old
+  pub painted-by-runs : (s : Sized w h)
+      → brushedRows (brushOf opacity red green blue) (runsOf (covered kind) w h) (reachRows kind h .top) (reachRows kind h .bottom) w h old ≡ painted kind opacity red green blue w h old
   unfolding painted
-  painted-by-runs s rows o =
+  painted-by-runs s =
       list-same w h _ _ nan
       (λ ch y x c l m.
-      ap (λ (t : Bool). cond t (mixed (brushOf opacity red green blue) ch (pictureOf nan w old ch y x)) (pictureOf nan w old ch y x)) (in-runs kind w h s rows o x y m l)
+      ap (λ (t : Bool). cond t (mixed (brushOf opacity red green blue) ch (pictureOf nan w old ch y x)) (pictureOf nan w old ch y x)) (in-runs kind w h s x y m l)
       ∙ ap (λ (v : Float). cond (covered kind x y) v (pictureOf nan w old ch y x)) (mixed-blended opacity red green blue ch (pictureOf nan w old ch y x)))
+
+  pub painted-is : (s : Sized w h) (b : Brush) (runs : List ℕ) (rows : Rows) (new : List Float) → b ≡ brushOf opacity red green blue → runs ≡ runsOf (covered kind) w h → rows ≡ reachRows kind h
+      → new ≡ brushedRows b runs (rows .top) (rows .bottom) w h old → new ≡ painted kind opacity red green blue w h old
+  painted-is s b runs rows new p q r e =
+      e
+      ∙ ap (λ (t : Brush). brushedRows t runs (rows .top) (rows .bottom) w h old) p
+      ∙ ap (λ (t : List ℕ). brushedRows (brushOf opacity red green blue) t (rows .top) (rows .bottom) w h old) q
+      ∙ ap (λ (t : Rows). brushedRows (brushOf opacity red green blue) (runsOf (covered kind) w h) (t .top) (t .bottom) w h old) r
+      ∙ painted-by-runs s
 
   pub length-painted : length (painted kind opacity red green blue w h old) ≡ h * w * 3
   unfolding painted

@@ -4,7 +4,6 @@ ghost use mathlib.Core.Bool.{false};
 ghost use Prim.Native.Nat.{_+_, _*_, _^_, _<_, _≤_};
 ghost use lib.Dec.{T};
 ghost use lib.IntN.{pos};
-ghost use lib.Signed.{_≤ℤ_, _<ℤ_};
 ghost use lib.Ieee.{binary64, ofInt};
 ghost use lib.ListN.{length};
 ghost use Rattle.laws.specs.F64.{_⊘_};
@@ -14,11 +13,12 @@ ghost use Rattle.float.specs.Within.{number, within, allWithin};
 ghost use Rattle.refusal.specs.Refusals.{Sized};
 ghost use Rattle.cover.specs.Cover.{badPlaces};
 ghost use Rattle.picture.specs.Painting.{BlendSays};
-ghost use Rattle.picture.specs.Strokes.{brushedPart, brushedRows, RowsOf};
+ghost use Rattle.picture.specs.Strokes.{brushedPart, brushedRows, RowsWithin};
 ghost use Rattle.picture.specs.Pixels.{BadColourSays, FillSays, FilledCanvasSays, fillRefusal, MeanRgbSays, meanOf, meanRefusal, SseTotalSays, squaredDifference, totalRefusal, TotalAnySays, TotalWithinSays};
 use brush::Brush;
 use cover::Kind;
 use cover::Reach;
+use cover::rows::Rows;
 
 pub struct Colour {
     pub red: f32,
@@ -214,12 +214,6 @@ fn squared_any(t: f32, c: f32) -> f64
 
 // ---- painting
 
-// Rows first up to end, end left out.
-struct Rows {
-    first: usize,
-    end: usize,
-}
-
 // Every covered channel becomes m * old + a * colour, m = 1 - a, in f32; all others stay. For any picture, opacity and
 // colour bits. Sizes, places and the picture's length were tested.
 pub fn blend(
@@ -239,34 +233,19 @@ pub fn blend(
 {
     let mut runs = [0u16; 512];
     cover::runs(kind, w, h, &mut runs);
-    let reach = cover::row_reach(kind, h);
-    let rows = rows_of(reach.first, reach.last, h);
+    let rows = cover::rows::reach_rows(kind, h);
     let brush = brush::brush_of(opacity, red, green, blue);
     blend_rows(brush, &runs, rows, w, h, canvas);
 }
 
-// Rows first to last, both inclusive; none where first is above last.
-fn rows_of(first: i32, last: i32, h: usize) -> Rows
-    requires { ⌜ (h ≤ 256) × (pos 0 ≤ℤ first) × (last <ℤ pos h) ⌝ }
-    ensures { λ r. ⌜ RowsOf first last h r ⌝ }
-{
-    if last < first {
-        return Rows { first: 0, end: 0 };
-    }
-    Rows {
-        first: first as usize,
-        end: last as usize + 1,
-    }
-}
-
 fn blend_rows(brush: Brush, runs: &[u16; 512], rows: Rows, w: usize, h: usize, canvas: &mut [f32])
     requires sizes { ⌜ Sized w h ⌝ }
-    requires rows { ⌜ (rows .first ≤ rows .end) × (rows .end ≤ h) ⌝ }
+    requires rows { ⌜ RowsWithin h rows ⌝ }
     requires runs { ⌜ RunsWithin w h (now runs) ⌝ }
     requires picture { ⌜ length (now canvas) ≡ h * w * 3 ⌝ }
-    ensures { λ _. ⌜ now (canvas .exit) ≡ brushedRows brush (now (runs .entry)) (rows .first) (rows .end) w h (now (canvas .entry)) ⌝ }
+    ensures { λ _. ⌜ now (canvas .exit) ≡ brushedRows brush (now (runs .entry)) (rows .top) (rows .bottom) w h (now (canvas .entry)) ⌝ }
 {
-    for y in rows.first..rows.end {
+    for y in rows.top..rows.bottom {
         let left = runs[y * 2] as usize;
         let right = runs[y * 2 + 1] as usize;
         blend_row(brush, left, right, y * w, canvas);

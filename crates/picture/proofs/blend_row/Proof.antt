@@ -2,59 +2,43 @@
 use mathlib.Core.Path.{ap}
 use Prim.Native.Nat.{_+_, _-_, _*_}
 use borrow.Rule.Slice.PartMut.{putMid}
-use native.Mathlib.Omega.{arith}
 use borrow.Author.Needs.{needs}
 use Rattle.picture.proofs.blend_row.Statement.{statement}
 use Rattle.picture.proofs.blend_row.Tie as tie
-use Rattle.picture.proofs.blend_row.Reads as reads
-use Rattle.picture.proofs.blend_row.Lts as lts
-use Rattle.brush.proofs.blend_run.Reads as blend-run-reads
 
--- src/lib.rt:281:14
 add-a : tie.Need-add-a
 add-a c = search needs
 
--- src/lib.rt:281:13
 mul-a : tie.Need-mul-a
 mul-a c = search needs
 
--- src/lib.rt:282:14
 add-e : tie.Need-add-e
 add-e c = search needs
 
--- src/lib.rt:282:13
 mul-e : tie.Need-mul-e
 mul-e c = search needs
 
--- src/lib.rt:283:29
 sub-blend-run : tie.Need-sub-blend-run
 sub-blend-run c = search needs
 
--- src/lib.rt:283:43
 mul-blend-run : tie.Need-mul-blend-run
 mul-blend-run c = search needs
 
--- src/lib.rt:283:43
 sub-blend-run-2 : tie.Need-sub-blend-run-2
 sub-blend-run-2 c = search needs
 
--- src/lib.rt:283:43
 part-blend-run-start : tie.Need-part-blend-run-start
 part-blend-run-start c = search needs
 
--- src/lib.rt:283:43
 part-blend-run-end : tie.Need-part-blend-run-end
 part-blend-run-end c = search needs
 
--- src/lib.rt:283:5
 blend-run-requires : tie.Need-blend-run-requires
 blend-run-requires c κs = search needs
 
--- src/lib.rt:277:1
 same-length : tie.Need-same-length
 same-length c = search needs
 
--- src/lib.rt:277:1
 returns : tie.Need-returns
 returns c =
     let a = c .before .before .before .before .before .args in
