@@ -37,6 +37,8 @@ pub mod Before
 pub mod BeforeLaws
 pub mod PixelSums
 pub mod PixelSumLaws
+pub mod RowFold
+pub mod RowFoldLaws
 pub mod RowSums
 pub mod RowSumLaws
 -- Pictures as lists.

@@ -29,11 +29,13 @@ use Rattle.score.specs.Swept.{swept}
 unfoldable pub spanSums : Kind → ℕ → ℕ → List Float → ShapeSums
 spanSums kind w h table = spanSum noSums plus minus (placeOf w table) (covered kind) w h
 
--- pixel x of row y of a target and a canvas
-abbrev pub pixelAt : ℕ → List Float → List Float → ℕ → ℕ → ShapeSums
-pixelAt w target canvas y x =
-    let i = (y * w + x) * 3 in
+-- the pixel whose channels begin at place i; pixel x of row y
+abbrev pub pixelFrom : List Float → List Float → ℕ → ShapeSums
+pixelFrom target canvas i =
     pixelSums (getD target i nan) (getD target (i + 1) nan) (getD target (i + 2) nan) (getD canvas i nan) (getD canvas (i + 1) nan) (getD canvas (i + 2) nan)
+
+abbrev pub pixelAt : ℕ → List Float → List Float → ℕ → ℕ → ShapeSums
+pixelAt w target canvas y x = pixelFrom target canvas ((y * w + x) * 3)
 
 -- by points: pixel by pixel, in row order
 unfoldable pub pointSums : Kind → ℕ → ℕ → List Float → List Float → ShapeSums

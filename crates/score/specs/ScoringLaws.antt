@@ -11,23 +11,23 @@ use lib.Dec.{ltb}
 use lib.Ieee.{Float}
 use Rattle.laws.specs.Ends.{Ends, none, ends, endsOf, leftOf, rightOf}
 use Rattle.laws.specs.EndsLaws.{Ended, ended}
-use Rattle.laws.specs.PixelSums.{addSpan, spanSum}
-use Rattle.laws.specs.PixelSumLaws.{span-step, span-skip}
+use Rattle.laws.specs.PixelSums.{addSpan, pointRow}
+use Rattle.laws.specs.RowFold.{rowsFrom}
+use Rattle.laws.specs.RowFoldLaws.{rows-none, rows-more, rows-same, rows-window, span-rows, point-rows, run-pixels}
 use Rattle.cover.specs.declared.Kind.{Kind}
 use Rattle.cover.specs.Cover.{covered}
-use Rattle.cover.specs.CoverLaws.{leftAt, rightAt, left-ends, right-ends, run-bounds}
+use Rattle.cover.specs.CoverLaws.{leftAt, rightAt, left-ends, right-ends, row-run, run-bounds}
 use Rattle.cover.specs.ReachRows.{reachRows}
 use Rattle.cover.specs.ReachRowsLaws.{through}
 use Rattle.laws.specs.Runs.{runsOf}
-use native.Mathlib.Nat.{add-zero}
 use Rattle.sums.specs.declared.ShapeSums.{ShapeSums}
-use Rattle.sums.specs.Sums.{noSums, plus, minus}
+use Rattle.sums.specs.Sums.{noSums, pixelSums, plus, minus}
 use Rattle.table.specs.Layout.{placeOf}
 use Rattle.score.specs.declared.Scored.{Scored}
 use Rattle.score.specs.declared.Collected.{Collected}
 use Rattle.score.specs.declared.Request.{Request}
-use Rattle.score.specs.RunSums.{runAdded, runLeft, runRight, runsAdded, RunsFit}
-use Rattle.score.specs.Scoring.{spanSums, AlphaSweepSays, CollectSpanSumsSays, CollectPointSumsSays, SpanScoreSays, PointScoreSays}
+use Rattle.score.specs.RunSums.{runAdded, runLeft, runRight, runsAdded, pixelsAdded, pointsAdded, RunsFit}
+use Rattle.score.specs.Scoring.{spanSums, pointSums, pixelAt, AlphaSweepSays, CollectSpanSumsSays, CollectPointSumsSays, SpanScoreSays, PointScoreSays}
 
 pub AlphaSweepSays-unique : (s : ShapeSums) (levels : List Float) (n : ℕ) (r q : Scored) → AlphaSweepSays s levels n r → AlphaSweepSays s levels n q → r ≡ q
 AlphaSweepSays-unique s levels n r q f g = f ∙ sym g
@@ -54,17 +54,6 @@ added-ends w table y n p none g s = refl
 added-ends w table y n p (ends l r) g s =
     ap (λ (b : Bool). cond b (plus s (minus (placeOf w table y (r + 1)) (placeOf w table y l))) s) (lt-ltb l (r + 1) (omega (arith, g .0)))
 
-module _ (kind : Kind) (w h : ℕ) (room : h ≤ 256) (table : List Float) where
-  abbrev pub sumsTo : ℕ → ShapeSums
-  sumsTo y = spanSum noSums plus minus (placeOf w table) (covered kind) w y
-
-  -- one more row
-  pub row-added : (y : ℕ) → y < h → runAdded w table y (leftAt kind w h room y) (rightAt kind w h room y) (sumsTo y) ≡ sumsTo (y + 1)
-  row-added y l =
-      ap₂ (λ (a b : ℕ). runAdded w table y a b (sumsTo y)) (left-ends kind w h room y l) (right-ends kind w h room y l)
-      ∙ added-ends w table y w (λ x. covered kind x y) (endsOf (λ x. covered kind x y) w) (ended (λ x. covered kind x y) w) (sumsTo y)
-      ∙ sym (span-step noSums plus minus (placeOf w table) (covered kind) w y)
-
 pub no-count : noSums .count ≡ 0
 unfolding noSums
 no-count = refl
@@ -79,40 +68,48 @@ added-count w table y left right s l = by (decLe right left)
     by (yes e) = ap (λ (b : Bool). cond b (plus s (minus (placeOf w table y right) (placeOf w table y left))) s .count) (le-ltb left right e) ∙ omega arith
     by (no n) = ap (λ (b : Bool). cond b (plus s (minus (placeOf w table y right) (placeOf w table y left))) s .count) (lt-ltb left right (omega arith))
 
--- ---- the loop over the runs
+-- ---- the loops over the runs
 module _ (w : ℕ) (table : List Float) (runs : List ℕ) (top : ℕ) where
   pub runs-none : runsAdded w table runs top 0 ≡ noSums
   unfolding runsAdded
-  runs-none = refl
+  runs-none = rows-none (λ y. runAdded w table y (runLeft runs y) (runRight runs y)) top noSums
 
   pub runs-more : (y : ℕ) → top ≤ y
       → runAdded w table y (runLeft runs y) (runRight runs y) (runsAdded w table runs top (y - top)) ≡ runsAdded w table runs top (y + 1 - top)
   unfolding runsAdded
-  runs-more y l =
-      let e : y + 1 - top ≡ suc (y - top) = omega arith in
-      let g : top + (y - top) ≡ y = omega arith in
-      rw (e, g) refl
+  runs-more y l = rows-more (λ z. runAdded w table z (runLeft runs z) (runRight runs z)) top y noSums l
 
--- over the rows of the reach it is the span sum of the whole picture
-module _ (kind : Kind) (w h : ℕ) (room : h ≤ 256) (table : List Float) where
+module _ (w : ℕ) (target canvas : List Float) where
+  pub pixels-none : (y left : ℕ) (s : ShapeSums) → pixelsAdded w target canvas y left 0 s ≡ s
+  unfolding pixelsAdded
+  pixels-none y left s = rows-none (λ x u. plus u (pixelAt w target canvas y x)) left s
+
+  pub pixels-more : (y left x : ℕ) (s : ShapeSums) → left ≤ x
+      → plus (pixelsAdded w target canvas y left (x - left) s) (pixelAt w target canvas y x) ≡ pixelsAdded w target canvas y left (x + 1 - left) s
+  unfolding pixelsAdded
+  pixels-more y left x s l = rows-more (λ z u. plus u (pixelAt w target canvas y z)) left x s l
+
+  -- each adds one to the count
+  pub pixels-count : (y left k : ℕ) (s : ShapeSums) → pixelsAdded w target canvas y left k s .count ≡ s .count + k
+  unfolding pixelsAdded rowsFrom plus pixelSums
+  pixels-count y left zero s = omega arith
+  pixels-count y left (suc k) s = omega (arith, pixels-count y left k s)
+
+  module _ (runs : List ℕ) (top : ℕ) where
+    pub points-none : pointsAdded w target canvas runs top 0 ≡ noSums
+    unfolding pointsAdded
+    points-none = rows-none (λ y. pixelsAdded w target canvas y (runLeft runs y) (runRight runs y - runLeft runs y)) top noSums
+
+    pub points-more : (y : ℕ) → top ≤ y
+        → pixelsAdded w target canvas y (runLeft runs y) (runRight runs y - runLeft runs y) (pointsAdded w target canvas runs top (y - top))
+        ≡ pointsAdded w target canvas runs top (y + 1 - top)
+    unfolding pointsAdded
+    points-more y l = rows-more (λ z. pixelsAdded w target canvas z (runLeft runs z) (runRight runs z - runLeft runs z)) top y noSums l
+
+-- over the rows of the reach they are the sums of the whole picture
+module _ (kind : Kind) (w h : ℕ) (room : h ≤ 256) where
   abbrev runs : List ℕ
   runs = runsOf (covered kind) w h
-
-  abbrev upTo : ℕ → ShapeSums
-  upTo = sumsTo kind w h room table
-
-  part : (top k : ℕ) → top + k ≤ h → upTo top ≡ noSums → upTo (top + k) ≡ runsAdded w table runs top k
-  unfolding runsAdded
-  part top zero l e = ap upTo (add-zero top) ∙ e
-  part top (suc k) l e =
-      let g : top + suc k ≡ top + k + 1 = omega arith in
-      ap upTo g
-      ∙ sym (row-added kind w h room table (top + k) (omega arith))
-      ∙ ap (runAdded w table (top + k) (runLeft runs (top + k)) (runRight runs (top + k))) (part top k (omega arith) e)
-
-  first-rows : upTo 0 ≡ noSums
-  unfolding spanSum
-  first-rows = refl
 
   abbrev top : ℕ
   top = reachRows kind h .top
@@ -120,33 +117,43 @@ module _ (kind : Kind) (w h : ℕ) (room : h ≤ 256) (table : List Float) where
   abbrev bottom : ℕ
   bottom = reachRows kind h .bottom
 
-  skip : (a b : ℕ) → a ≤ b → b ≤ h → ((y : ℕ) → a ≤ y → y < b → (y < top) ⊎ (bottom ≤ y)) → upTo b ≡ upTo a
-  skip a b l m o =
-      let e : a + (b - a) ≡ b = omega arith in
-      ap upTo (sym e)
-      ∙ span-skip noSums plus minus (placeOf w table) (covered kind) w a (b - a)
-      (λ y g k. let n : y < b = omega arith in through kind h .outside w y (omega arith) (o y g n))
+  within-picture : top < bottom → bottom ≤ h
+  within-picture l = let n : bottom - 1 < h = through kind h .inside (bottom - 1) (omega arith) (omega arith) in omega arith
 
-  pub reach-sums : runsAdded w table runs top (bottom - top) ≡ spanSums kind w h table
-  unfolding spanSums
-  reach-sums = by (decLe bottom top) (decLe top h)
+  pub reach-sums : (table : List Float) → runsAdded w table runs top (bottom - top) ≡ spanSums kind w h table
+  unfolding runsAdded spanSums
+  reach-sums table =
+      rows-same (λ y. runAdded w table y (runLeft runs y) (runRight runs y)) add top (bottom - top) noSums
+      (λ y a b t. let l : y < h = through kind h .inside y (omega (arith, through kind h .ordered)) a in
+      ap₂ (λ (m n : ℕ). runAdded w table y m n t) (left-ends kind w h room y l) (right-ends kind w h room y l)
+      ∙ added-ends w table y w (λ x. covered kind x y) (endsOf (λ x. covered kind x y) w) (ended (λ x. covered kind x y) w) t)
+      ∙ rows-window add top bottom h noSums (through kind h .ordered) within-picture
+      (λ y l o t. ap (λ (e : Ends). addSpan noSums plus minus (placeOf w table y) e t) (through kind h .outside w y l o))
+      ∙ sym (span-rows noSums plus minus (placeOf w table) (covered kind) w h)
     where
-      by : Dec (bottom ≤ top) → Dec (top ≤ h) → runsAdded w table runs top (bottom - top) ≡ upTo h
-      by (yes g) t =
-          let z : bottom - top ≡ 0 = omega arith in
-          ap (runsAdded w table runs top) z ∙ runs-none w table runs top ∙ sym first-rows
-          ∙ sym (skip 0 h (omega arith) (omega arith) (λ y a b. side y (decLe top y)))
-        where
-          side : (y : ℕ) → Dec (top ≤ y) → (y < top) ⊎ (bottom ≤ y)
-          side y (yes q) = inr (omega arith)
-          side y (no q) = inl (omega arith)
-      by (no g) t =
-          let last : bottom - 1 < h = through kind h .inside (bottom - 1) (omega arith) (omega arith) in
-          let e : top + (bottom - top) ≡ bottom = omega arith in
-          sym (part top (bottom - top) (omega arith) (skip 0 top (omega arith) (omega arith) (λ y a b. inl b) ∙ first-rows))
-          ∙ ap upTo e
-          ∙ sym (skip bottom h (omega arith) (omega arith) (λ y a b. inr a))
+      add : ℕ → ShapeSums → ShapeSums
+      add y = addSpan noSums plus minus (placeOf w table y) (endsOf (λ x. covered kind x y) w)
 
-  -- what the loop asks of the runs
+  pub reach-points : (target canvas : List Float) → pointsAdded w target canvas runs top (bottom - top) ≡ pointSums kind w h target canvas
+  unfolding pointsAdded pixelsAdded pointSums
+  reach-points target canvas =
+      rows-same (λ y. pixelsAdded w target canvas y (runLeft runs y) (runRight runs y - runLeft runs y)) row top (bottom - top) noSums
+      (λ y a b t. let l : y < h = through kind h .inside y (omega (arith, through kind h .ordered)) a in pixels y l t)
+      ∙ rows-window row top bottom h noSums (through kind h .ordered) within-picture
+      (λ y l o t. sym (pixels y l t)
+      ∙ ap₂ (λ (m n : ℕ). rowsFrom (λ x u. plus u (pixelAt w target canvas y x)) m (n - m) t)
+      (left-ends kind w h room y l ∙ ap leftOf (through kind h .outside w y l o)) (right-ends kind w h room y l ∙ ap rightOf (through kind h .outside w y l o))
+      ∙ rows-none (λ x u. plus u (pixelAt w target canvas y x)) 0 t)
+      ∙ sym (point-rows noSums plus minus (pixelAt w target canvas) (covered kind) w h)
+    where
+      row : ℕ → ShapeSums → ShapeSums
+      row y = pointRow noSums plus minus (pixelAt w target canvas y) (λ x. covered kind x y) w
+
+      pixels : (y : ℕ) → y < h → (t : ShapeSums)
+          → rowsFrom (λ x u. plus u (pixelAt w target canvas y x)) (runLeft runs y) (runRight runs y - runLeft runs y) t ≡ row y t
+      pixels y l t =
+          sym (run-pixels noSums plus minus (pixelAt w target canvas y) (λ x. covered kind x y) w (runLeft runs y) (runRight runs y) (row-run kind w h room y l) t)
+
+  -- what the loops ask of the runs
   pub runs-fit : RunsFit runs w top bottom
   runs-fit y a b = run-bounds kind w h room y (through kind h .inside y b a)

@@ -14,6 +14,7 @@ ghost use Rattle.score.specs.Swept.{swept};
 use sums::ShapeSums;
 
 pub mod levels;
+mod points;
 mod spans;
 
 // A shape's score: the opacity it was scored at, how many pixels it covers, the change of the squared error, its colour.

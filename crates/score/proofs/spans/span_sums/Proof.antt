@@ -60,7 +60,7 @@ add-rows-requires c κs =
     let high : bottom ≤ a .h = omega arith in
     rw (top-is r, bottom-is r, c .before .runs2 .ensures) (
       (s .pre .0 .w-high, omega arith, omega arith, omega (arith, mul-le-mul-right ((a .w + 1) * 15) high, s .pre .1 .1)),
-      runs-fit (a .kind) (a .w) (a .h) room (a .table .now),
+      runs-fit (a .kind) (a .w) (a .h) room,
     )
 
 returns-2 : tie.Need-returns-2
