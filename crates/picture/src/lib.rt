@@ -1,23 +1,25 @@
 // Pictures: fill, mean, total, and shapes blended into them.
 ghost use mathlib.Core.Path.{_≡_};
 ghost use mathlib.Core.Bool.{false};
+ghost use mathlib.Core.List.{[], _∷_};
 ghost use Prim.Native.Nat.{_+_, _*_, _^_, _<_, _≤_};
 ghost use lib.Dec.{T};
 ghost use lib.IntN.{pos};
 ghost use lib.Ieee.{binary64, ofInt};
 ghost use lib.ListN.{length};
+ghost use Rattle.laws.specs.F32.{_⊟_};
 ghost use Rattle.laws.specs.F64.{_⊘_};
 ghost use Rattle.laws.specs.Strokes.{RunsWithin};
 ghost use Rattle.float.specs.Narrowed.{narrowed};
 ghost use Rattle.float.specs.Within.{number, within, allWithin};
-ghost use Rattle.refusal.specs.Refusals.{Sized};
+ghost use Rattle.refusal.specs.Refusals.{Sized, lowest, sizeIf, lengthIf, badSize};
+ghost use Rattle.refusal.specs.Lengths.{badPicture};
 ghost use Rattle.cover.specs.Cover.{badPlaces};
 ghost use Rattle.picture.specs.Painting.{BlendSays};
 ghost use Rattle.picture.specs.Strokes.{brushedPart, brushedRows, RowsWithin};
 ghost use Rattle.picture.specs.Pixels.{BadColourSays, FillSays, FilledCanvasSays, fillRefusal, MeanRgbSays, meanOf, meanRefusal, SseTotalSays, squaredDifference, totalRefusal, TotalAnySays, TotalWithinSays};
 use brush::Brush;
 use cover::Kind;
-use cover::Reach;
 use cover::rows::Rows;
 
 pub struct Colour {
@@ -43,6 +45,19 @@ pub fn bad_colour(red: f32, green: f32, blue: f32) -> bool
     !(float::within(red) & float::within(green) & float::within(blue))
 }
 
+// Size, then length.
+fn refused(w: usize, h: usize, n: usize) -> u8
+    ensures { λ r. ⌜ r ≡ lowest (sizeIf (badSize w h) ∷ lengthIf (badPicture w h n) ∷ []) ⌝ }
+{
+    if refusal::bad_size(w, h) {
+        return refusal::SIZE;
+    }
+    if refusal::bad_picture(w, h, n) {
+        return refusal::LENGTH;
+    }
+    0
+}
+
 // ---- fill
 
 // Every pixel gets the colour. Refusals: 1 size, 2 length, 6 colour; 0 is done.
@@ -59,11 +74,9 @@ pub fn filled_canvas(w: usize, h: usize, red: f32, green: f32, blue: f32, canvas
 fn fill_refusal(w: usize, h: usize, red: f32, green: f32, blue: f32, n: usize) -> u8
     ensures { λ r. ⌜ r ≡ fillRefusal w h red green blue n ⌝ }
 {
-    if refusal::bad_size(w, h) {
-        return refusal::SIZE;
-    }
-    if refusal::bad_picture(w, h, n) {
-        return refusal::LENGTH;
+    let number = refused(w, h, n);
+    if number != 0 {
+        return number;
     }
     if bad_colour(red, green, blue) {
         return refusal::COLOUR;
@@ -101,11 +114,9 @@ pub fn mean_rgb(w: usize, h: usize, target: &[f32]) -> Mean
 fn mean_refusal(w: usize, h: usize, target: &[f32]) -> u8
     ensures { λ r. ⌜ r ≡ meanRefusal w h (now (target .entry)) ⌝ }
 {
-    if refusal::bad_size(w, h) {
-        return refusal::SIZE;
-    }
-    if refusal::bad_picture(w, h, target.len()) {
-        return refusal::LENGTH;
+    let number = refused(w, h, target.len());
+    if number != 0 {
+        return number;
     }
     if !float::all_within(target) {
         return refusal::PIXEL;
@@ -158,11 +169,13 @@ pub fn sse_total(w: usize, h: usize, target: &[f32], canvas: &[f32]) -> Total
 fn total_refusal(w: usize, h: usize, target: &[f32], canvas: &[f32]) -> u8
     ensures { λ r. ⌜ r ≡ totalRefusal w h (now (target .entry)) (now (canvas .entry)) ⌝ }
 {
-    if refusal::bad_size(w, h) {
-        return refusal::SIZE;
+    let number = refused(w, h, target.len());
+    if number != 0 {
+        return number;
     }
-    if refusal::bad_picture(w, h, target.len()) | refusal::bad_picture(w, h, canvas.len()) {
-        return refusal::LENGTH;
+    let number = refused(w, h, canvas.len());
+    if number != 0 {
+        return number;
     }
     if !float::all_within(target) | !float::all_within(canvas) {
         return refusal::PIXEL;
@@ -208,8 +221,15 @@ pub fn total_any(target: &[f32], canvas: &[f32]) -> f64
 fn squared_any(t: f32, c: f32) -> f64
     ensures { λ r. ⌜ r ≡ squaredDifference t c ⌝ }
 {
-    let d = float::widen(t - c);
+    let d = difference_any(t, c);
     d * d
+}
+
+// In f32, then widened.
+fn difference_any(t: f32, c: f32) -> f64
+    ensures { λ r. ⌜ r ≡ t ⊟ c ⌝ }
+{
+    float::widen(t - c)
 }
 
 // ---- painting

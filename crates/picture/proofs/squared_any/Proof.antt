@@ -1,13 +1,13 @@
--- A widened difference is the difference.
+-- The square of the difference.
 use Rattle.picture.proofs.squared_any.Statement.{statement}
 use Rattle.picture.proofs.squared_any.Tie as tie
 use borrow.Author.Needs.{needs}
 
-widen-requires : tie.Need-widen-requires
-widen-requires c κs = search needs
+difference-any-requires : tie.Need-difference-any-requires
+difference-any-requires c κs = search needs
 
 returns : tie.Need-returns
-returns c = simp (c .widen .ensures)
+returns c = simp (c .difference-any .ensures)
 
 pub squared-any-spec : {M : Type 1} → statement M
-squared-any-spec = tie.close (tie.spec widen-requires returns)
+squared-any-spec = tie.close (tie.spec difference-any-requires returns)
