@@ -41,3 +41,9 @@ pub mod RowFold
 pub mod RowFoldLaws
 pub mod RowSums
 pub mod RowSumLaws
+-- Pictures as lists.
+pub mod F32
+pub mod Pictures
+pub mod PictureLaws
+pub mod Strokes
+pub mod StrokeLaws
