@@ -14,6 +14,11 @@ pub mod Bools
 pub mod Ends
 pub mod EndsLaws
 pub mod Runs
+pub mod RunsLaws
+pub mod Blank
+pub mod Answer
+pub mod Holds
+pub mod RunLaws
 pub mod Rows
 pub mod RowLaws
 pub mod Tab

@@ -1,0 +1,4 @@
+pub mod Disc
+pub mod Steps
+pub mod DiscLaws
+pub mod StepLaws

@@ -1,0 +1,10 @@
+-- Document 01, "Which pixels a shape covers": triangles and quads, over any number of corners.
+pub mod Polygon
+-- What the steps of fill_runs promise.
+pub mod Steps
+-- Proved of them.
+pub mod Sides
+pub mod Box
+pub mod StepLaws
+pub mod Around
+pub mod PolygonLaws
