@@ -27,3 +27,7 @@ pub mod Index
 pub mod Fill
 pub mod Every
 pub mod EveryLaws
+pub mod Without
+pub mod WithoutLaws
+pub mod InOrder
+pub mod InOrderLaws
