@@ -1,2 +1,4 @@
 pub mod Refinement
+pub mod Lists
+pub mod Blank
 pub mod RefinementLaws
