@@ -176,3 +176,13 @@ lt-asym x y h = let n = lt-numbers x y h in subst T (le-is x y (n .0) (n .1)) (l
 
 pub lt-trans : (x y z : Float) → T (lt x y) → T (lt y z) → T (lt x z)
 lt-trans x y z h k = lt-skip x y z (lt-numbers y z k .1) h (lt-asym y z k)
+
+pub le-numbers : (x y : Float) → T (le x y) → T (number x) × T (number y)
+unfolding le lt eq isNan
+le-numbers nan y h = absurd h
+le-numbers (inf s) nan h = absurd h
+le-numbers (inf s) (inf t) h = (tt, tt)
+le-numbers (inf s) (fin t n d) h = (tt, tt)
+le-numbers (fin s m e) nan h = absurd h
+le-numbers (fin s m e) (inf t) h = (tt, tt)
+le-numbers (fin s m e) (fin t n d) h = (tt, tt)

@@ -14,11 +14,11 @@ pub mod Bools
 pub mod Ends
 pub mod EndsLaws
 pub mod Runs
-pub mod RunsLaws
 pub mod Blank
 pub mod Answer
 pub mod Holds
 pub mod RunLaws
+pub mod RunPlaces
 pub mod Rows
 pub mod RowLaws
 pub mod Tab
@@ -31,3 +31,9 @@ pub mod Without
 pub mod WithoutLaws
 pub mod InOrder
 pub mod InOrderLaws
+-- Ordered sums, and tables of them.
+pub mod F64
+pub mod Before
+pub mod BeforeLaws
+pub mod RowSums
+pub mod RowSumLaws

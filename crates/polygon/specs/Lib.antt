@@ -7,4 +7,5 @@ pub mod Sides
 pub mod Box
 pub mod StepLaws
 pub mod Around
+pub mod FillLaws
 pub mod PolygonLaws

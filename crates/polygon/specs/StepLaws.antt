@@ -173,3 +173,20 @@ pub extent-none : (zs : List ℤ) → length zs ≡ 0 → ExtentOfSays zs (pos 0
 unfolding leastOf greatestOf
 extent-none [] h = record { low = refl; high = refl }
 extent-none (a ∷ r) h = absurd (omega arith)
+
+-- both are within what bounds every number of the list
+one-of : {n : ℕ} (b : Bool) {x y : ℤ} → Bounded n x → Bounded n y → Bounded n (cond b x y)
+one-of true f g = f
+one-of false f g = g
+
+pub least-bounded : {n : ℕ} (zs : List ℤ) → ((i : ℕ) → Bounded n (getD zs i (pos 0))) → Bounded n (leastOf zs)
+unfolding leastOf
+least-bounded [] f = f 0
+least-bounded (a ∷ []) f = f 0
+least-bounded (a ∷ b ∷ r) f = one-of (leZ a (leastOf (b ∷ r))) (f 0) (least-bounded (b ∷ r) (λ i. f (suc i)))
+
+pub greatest-bounded : {n : ℕ} (zs : List ℤ) → ((i : ℕ) → Bounded n (getD zs i (pos 0))) → Bounded n (greatestOf zs)
+unfolding greatestOf
+greatest-bounded [] f = f 0
+greatest-bounded (a ∷ []) f = f 0
+greatest-bounded (a ∷ b ∷ r) f = one-of (leZ a (greatestOf (b ∷ r))) (greatest-bounded (b ∷ r) (λ i. f (suc i))) (f 0)

@@ -173,3 +173,26 @@ fn row_run(xs: &[i32], ys: &[i32], sign: i64, w: usize, y: usize) -> Run
         right: right,
     }
 }
+
+// Writes the runs of the rows that the corners reach; the others have no column, and stay 0, 0.
+pub fn fill_runs(xs: &[i32], ys: &[i32], w: usize, h: usize, out: &mut [u16; 512])
+    requires corners { ⌜ InRange (now xs) (now ys) ⌝ }
+    requires size { ⌜ Sized w h ⌝ }
+    requires blank { ⌜ Blank (now out) ⌝ }
+    ensures { λ r. ⌜ FillRunsSays (now (xs .entry)) (now (ys .entry)) w h (now (out .exit)) ⌝ }
+{
+    let area = area2(xs, ys);
+    if area == 0 {
+        return;
+    }
+    let sign = sign_of(area);
+    let rows = extent_of(ys);
+    let first = whole::clamp_i64(rows.least as i64, h);
+    let past = whole::clamp_i64(rows.greatest as i64 + 1, h);
+    for y in first..past {
+        let run = row_run(xs, ys, sign, w, y);
+        let place = y * 2;
+        out[place] = run.left as u16;
+        out[place + 1] = run.right as u16;
+    }
+}

@@ -1,2 +1,4 @@
 pub mod Refusals
 pub mod RefusalLaws
+pub mod Lengths
+pub mod LengthLaws

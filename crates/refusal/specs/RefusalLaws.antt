@@ -64,6 +64,11 @@ lowest-above n (t ∷ r) h =
     by true e i = inr (head-above n t r h)
     by false e i = i
 
+-- no test, no refusal
+pub lowest-empty : lowest [] ≡ 0
+unfolding lowest
+lowest-empty = refl
+
 -- one that holds, before tests of larger numbers alone, is the answer
 pub lowest-take : (t : Test) (r : List Test) → t .holds ≡ true → T (above (t .number) r) → lowest (t ∷ r) ≡ t .number
 unfolding lowest

@@ -1,5 +1,7 @@
 // Document 01's refusal numbers, and the tests of sizes and places that every entry point shares.
+ghost use Prim.Native.Nat.{_≤_};
 ghost use Rattle.refusal.specs.Refusals.{BadSizeSays, BadPlaceSays};
+ghost use Rattle.refusal.specs.Lengths.{BadPictureSays, BadTableSays};
 
 pub const SIZE: u8 = 1;
 
@@ -39,4 +41,20 @@ pub fn bad_place(z: i32) -> bool
         return true;
     }
     8191 < z
+}
+
+// n elements are not a picture's. Sizes are tested before, so that the product does not wrap.
+pub fn bad_picture(w: usize, h: usize, n: usize) -> bool
+    requires { ⌜ (w ≤ 256) × (h ≤ 256) ⌝ }
+    ensures { λ r. ⌜ BadPictureSays w h n r ⌝ }
+{
+    n != h * w * 3
+}
+
+// n elements are not a table's.
+pub fn bad_table(w: usize, h: usize, n: usize) -> bool
+    requires { ⌜ (w ≤ 256) × (h ≤ 256) ⌝ }
+    ensures { λ r. ⌜ BadTableSays w h n r ⌝ }
+{
+    n != h * (w + 1) * 15
 }

@@ -1,0 +1,4 @@
+pub mod Levels
+pub mod LevelLaws
+pub mod Sweep
+pub mod SweepLaws

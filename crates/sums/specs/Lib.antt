@@ -1,0 +1,4 @@
+-- What a reader must believe.
+pub mod Sums
+-- What follows.
+pub mod SumLaws

@@ -1,0 +1,9 @@
+-- What a reader must believe.
+pub mod Layout
+pub mod Table
+pub mod Fills
+-- What follows.
+pub mod LayoutLaws
+pub mod FillLaws
+pub mod TestLaws
+pub mod TableLaws
