@@ -1,3 +1,6 @@
 pub mod Cover
 pub mod Answers
+pub mod Steps
 pub mod AnswerLaws
+pub mod CoverLaws
+pub mod Figures
