@@ -1,4 +1,7 @@
 pub mod Refinement
 pub mod Lists
 pub mod Blank
+pub mod Ranges
 pub mod RefinementLaws
+pub mod RangeLaws
+pub mod ChainLaws

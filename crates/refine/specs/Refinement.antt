@@ -16,13 +16,13 @@ pub record Scene (S P : Type 0) : Type 0 where
   pub candidate : ℕ → Option S
 
 -- the shapes of a list painted on a picture, one after another
-unfoldable pub paintedOn : {S P : Type 0} → Scene S P → P → List S → P
-paintedOn g p [] = p
-paintedOn g p (s ∷ r) = paintedOn g (g .paint s p) r
+unfoldable pub paintedOn : {S P : Type 0} → (S → P → P) → P → List S → P
+paintedOn paint p [] = p
+paintedOn paint p (s ∷ r) = paintedOn paint (paint s p) r
 
 -- the list drawn over the background
 abbrev pub drawn : {S P : Type 0} → Scene S P → List S → P
-drawn g l = paintedOn g (g .background) l
+drawn g l = paintedOn (g .paint) (g .background) l
 
 -- ---- one trial
 

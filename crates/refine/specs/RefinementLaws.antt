@@ -154,21 +154,21 @@ module _ {S P : Type 0} (g : Scene S P) where
       ∙ ap (λ (b : Bool). cond b (nothingYet l) (passes g (suc p) (nothingYet l))) (le-ltb (length l) 2 h)
 
 -- ---- drawing
-module _ {S P : Type 0} (g : Scene S P) where
-  pub painted-append : (p : P) (k l : List S) → paintedOn g p (k ++ l) ≡ paintedOn g (paintedOn g p k) l
-  unfolding paintedOn
-  painted-append p [] l = refl
-  painted-append p (s ∷ k) l = painted-append (g .paint s p) k l
+pub painted-append : {S P : Type 0} (paint : S → P → P) (p : P) (k l : List S) → paintedOn paint p (k ++ l) ≡ paintedOn paint (paintedOn paint p k) l
+unfolding paintedOn
+painted-append paint p [] l = refl
+painted-append paint p (s ∷ k) l = painted-append paint (paint s p) k l
 
+module _ {S P : Type 0} (g : Scene S P) where
   -- from a picture of the shapes before j
-  pub drawn-without : (l : List S) (j : ℕ) → drawn g (without j l) ≡ paintedOn g (drawn g (take j l)) (drop (suc j) l)
+  pub drawn-without : (l : List S) (j : ℕ) → drawn g (without j l) ≡ paintedOn (g .paint) (drawn g (take j l)) (drop (suc j) l)
   unfolding without
-  drawn-without l j = painted-append (g .background) (take j l) (drop (suc j) l)
+  drawn-without l j = painted-append (g .paint) (g .background) (take j l) (drop (suc j) l)
 
   -- after an acceptance the list drawn is the picture of the trial, and so old is new
   pub drawn-exchanged : (l : List S) (j : ℕ) (s : S) → drawn g (without j l ++ (s ∷ [])) ≡ g .paint s (drawn g (without j l))
   unfolding paintedOn
-  drawn-exchanged l j s = painted-append (g .background) (without j l) (s ∷ [])
+  drawn-exchanged l j s = painted-append (g .paint) (g .background) (without j l) (s ∷ [])
 
 -- ---- a trial from its two totals
 module _ {S P : Type 0} (g : Scene S P) (a : Progress S) where

@@ -3,7 +3,10 @@ ghost use mathlib.Core.Path.{_≡_};
 ghost use mathlib.Core.List.{List, [], _∷_, _++_};
 ghost use Prim.Native.Nat.{_+_, _-_, _*_, _<_, _≤_};
 ghost use Rattle.laws.specs.Without.{without};
-ghost use Rattle.refine.specs.Lists.{listed};
+ghost use Rattle.refine.specs.declared.Shape.{Shape};
+ghost use Rattle.refine.specs.Lists.{listed, shapeIn};
+ghost use Rattle.refusal.specs.Refusals.{lowest};
+ghost use Rattle.refine.specs.Ranges.{colourFits, rangesOf, shapesIn, sizeTests, rangeTests};
 use cover::Kind;
 
 // A shape with its opacity and colour. It is read by its fields' names alone.
@@ -35,6 +38,22 @@ pub struct Slot {
 pub struct Candidates {
     pub slots: [Slot; 1024],
     pub count: usize,
+}
+
+// What refinement answers. Refused: the number, the list as handed in, and all else 0.
+pub struct Refined {
+    pub refusal: u8,
+    pub shapes: Shapes,
+    pub passes: usize,
+    pub trials: usize,
+    pub acceptances: usize,
+}
+
+// What is within its range of all shapes that were looked at.
+struct Ranges {
+    places: bool,
+    opacities: bool,
+    colours: bool,
 }
 
 // Shape j leaves, later ones move up.
@@ -70,4 +89,101 @@ fn exchange(s: Shapes, j: usize, x: Shape) -> Shapes
     ensures { λ r. ⌜ (r .count ≡ s .count) × (listed r ≡ without j (listed s) ++ (x ∷ [])) ⌝ }
 {
     push(remove(s, j), x)
+}
+
+// ---- refusals
+
+// One more shape is looked at.
+fn look(r: Ranges, s: Shape) -> Ranges
+    ensures { λ q. ⌜ ((l : List Shape) → r ≡ rangesOf l → q ≡ rangesOf (l ++ (s ∷ []))) ⌝ }
+{
+    let kind = s.kind;
+    Ranges {
+        places: r.places & !cover::bad_places(kind),
+        opacities: r.opacities & float::within(s.opacity),
+        colours: r.colours & colour_fits(s.red, s.green, s.blue),
+    }
+}
+
+fn colour_fits(red: f32, green: f32, blue: f32) -> bool
+    ensures { λ r. ⌜ r ≡ colourFits red green blue ⌝ }
+{
+    float::within(red) & float::within(green) & float::within(blue)
+}
+
+// A candidate, if it is a shape.
+fn look_at(r: Ranges, what: Candidate) -> Ranges
+    ensures { λ q. ⌜ ((l : List Shape) → r ≡ rangesOf l → q ≡ rangesOf (l ++ shapesIn (shapeIn what ∷ []))) ⌝ }
+{
+    match what {
+        Candidate::Nothing => r,
+        Candidate::Some(s) => look(r, s),
+    }
+}
+
+// All shapes of a list.
+fn look_through(s: Shapes) -> Ranges
+    requires { ⌜ s .count ≤ 64 ⌝ }
+    ensures { λ q. ⌜ q ≡ rangesOf (listed s) ⌝ }
+{
+    let n = s.count;
+    let mut r = Ranges {
+        places: true,
+        opacities: true,
+        colours: true,
+    };
+    let mut i = 0;
+    while i < n {
+        let x = s.items[i];
+        r = look(r, x);
+        i += 1;
+    }
+    r
+}
+
+// The lowest number of the tests of sizes, lengths and counts, 0 for none.
+fn bad_sizes(
+    w: usize,
+    h: usize,
+    target: usize,
+    first: usize,
+    second: usize,
+    shapes: usize,
+    candidates: usize,
+    passes: usize,
+) -> u8
+    ensures { λ r. ⌜ r ≡ lowest (sizeTests w h target first second shapes candidates passes) ⌝ }
+{
+    if refusal::bad_size(w, h) {
+        return refusal::SIZE;
+    }
+    if refusal::bad_picture(w, h, target)
+        | refusal::bad_picture(w, h, first)
+        | refusal::bad_picture(w, h, second)
+    {
+        return refusal::LENGTH;
+    }
+    if (64 < shapes) | (1024 < candidates) | (16 < passes) {
+        return refusal::COUNT;
+    }
+    0
+}
+
+// The same of the tests of what is listed and lent.
+fn bad_ranges(r: Ranges, red: f32, green: f32, blue: f32, target: &[f32]) -> u8
+    ensures { λ n. ⌜ n ≡ lowest (rangeTests r red green blue (now (target .entry))) ⌝ }
+{
+    if !r.places {
+        return refusal::PLACE;
+    }
+    if !r.opacities {
+        return refusal::OPACITY;
+    }
+    if !(r.colours & colour_fits(red, green, blue)) {
+        return refusal::COLOUR;
+    }
+    if !float::all_within(target) {
+        return refusal::PIXEL;
+    }
+    0
 }
