@@ -13,8 +13,11 @@ import sys
 ROOT = os.path.dirname(os.path.dirname(os.path.abspath(__file__)))
 TARGET = os.path.join(ROOT, "target")
 
-# The crates that export C functions: the published face, and what only tests call.
-EXPORTING = ["capi", "capi_probe"]
+
+def exporting():
+    """The crates that export C functions: `capi`, the published face, and each `probe_NAME`, for tests alone."""
+    names = sorted(os.listdir(os.path.join(ROOT, "crates")))
+    return [n for n in names if n == "capi" or n.startswith("probe_")]
 
 
 def die(text):
@@ -93,7 +96,7 @@ def write(path, text):
 
 def bindings(path):
     """Writes the Rust module `ours`, and answers the names in it."""
-    all_exports = [e for crate in EXPORTING for e in exports(crate)]
+    all_exports = [e for crate in exporting() for e in exports(crate)]
     pairs = [bound(e) for e in all_exports]
     declared = "\n".join(p[0] for p in pairs)
     safe = "\n".join(p[1] for p in pairs)
@@ -113,7 +116,7 @@ def archives(folder=None):
     With a folder: archives for this machine, compiled from the same modules (for times on Arm)."""
     need("rt", "the Rattle toolchain proves and archives our side")
     words = []
-    for crate in EXPORTING:
+    for crate in exporting():
         if not exports(crate):
             continue
         done = subprocess.run(["rt", "staticlib", crate], cwd=ROOT, stdout=subprocess.PIPE, stderr=subprocess.STDOUT, text=True)
@@ -126,6 +129,16 @@ def archives(folder=None):
             where = folder
         words += ["-L", f"native={where}", "-l", f"static={crate}"]
     return words
+
+
+def program(name):
+    """Proves and builds a program of ours; answers the words that run it."""
+    need("rt", "the Rattle toolchain proves and builds our programs")
+    done = subprocess.run(["rt", "check", name], cwd=ROOT, stdout=subprocess.PIPE, stderr=subprocess.STDOUT, text=True)
+    if done.returncode != 0:
+        die(done.stdout + f"rt check {name} failed")
+    runner = [] if platform.machine() == "x86_64" else ["qemu-x86_64"]
+    return [*runner, os.path.join(TARGET, "bin", name)]
 
 
 # ---- Rust
@@ -181,3 +194,20 @@ FLAGS = {"fast": ["-O"], "checked": ["-O", "-C", "overflow-checks=yes"]}
 def modules(folder, names):
     """The `mod` lines for Rust files, by their own paths."""
     return "\n".join(f'#[path = "{os.path.join(folder, n + ".rs")}"]\nmod {n};' for n in names)
+
+
+def sorted_by_needs(folder, mark, have):
+    """The Rust files of a folder: those without the mark, those that can run, and those that wait for exports."""
+    support, ready, waiting = [], [], []
+    for file in sorted(f for f in os.listdir(folder) if f.endswith(".rs")):
+        with open(os.path.join(folder, file), encoding="utf-8") as f:
+            text = f.read()
+        name = file[: -len(".rs")]
+        missing = [w for w in " ".join(re.findall(r"^//! Needs:(.*)$", text, re.M)).split() if w not in have]
+        if mark not in text:
+            support.append(name)
+        elif missing:
+            waiting.append((name, missing))
+        else:
+            ready.append(name)
+    return support, ready, waiting

@@ -3,4 +3,5 @@ pub mod Answers
 pub mod Steps
 pub mod AnswerLaws
 pub mod CoverLaws
+pub mod StepLaws
 pub mod Figures

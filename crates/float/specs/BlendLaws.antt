@@ -36,7 +36,7 @@ half-up a b p = go (a / b) (a % b) (compare (a % b * 2) b) (cmp (a % b * 2) b) (
     go w r Ordering·gt c e = omega (arith, suc-mul w b)
 
 -- ---- a value of binary32 in units of 2 ^ -149
-unit-of : (x : Float) → T (fits binary32 x) → Says x → (q : ℕ) × (j : ℕ) × (q < 16777216) × (num x * U ≡ q * 2 ^ j * den x)
+unit-of : (x : Float) → T (fits binary32 x) → Says x → (q : ℕ) × (j : ℕ) × (q < 0x100_0000) × (num x * U ≡ q * 2 ^ j * den x)
 unit-of nan h p = absurd p
 unit-of (inf s) h p = absurd p
 unit-of (fin s m e) h p = let i = placed binary32 s m e h in (i .q, i .j, i .few, i .same)
@@ -61,7 +61,7 @@ le-small (fin false m e) (fin false n d) a u p r h v =
     )
 
 -- ---- a * x is at most a
-module _ (q j : ℕ) (Q : q < 16777216) (K : q * 2 ^ j ≤ U) where
+module _ (q j : ℕ) (Q : q < 0x100_0000) (K : q * 2 ^ j ≤ U) where
   self : HasValue (round binary32 false (q * 2 ^ j) U) false (q * 2 ^ j) U
   self = round-exact binary32 false (q * 2 ^ j) U q j (pow-pos 149) Q (lt-of-le-of-lt K (lit< tt)) refl
 

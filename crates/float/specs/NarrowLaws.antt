@@ -4,13 +4,14 @@ use Prim.Native.Nat.{ℕ, _+_, _-_, _*_, _^_, _<_}
 use mathlib.Core.Bool.{Bool, false, not}
 use lib.IntN.{pos, negsuc}
 use lib.Dec.{T}
-use lib.Ieee.{Float, nan, inf, fin, binary32, up, down, round, fits, isNan}
+use lib.Ieee.{Float, nan, inf, fin, binary32, binary64, up, down, round, fits, isNan, nanBits, ofBits, toBits}
+use lib.Ieee.Bits.{is-true, nanBits-is}
 use lib.Ieee.Exact.{HasValue}
 use lib.Ieee.Fits.{down-pos, round-fits}
 use lib.Ieee.Scale.{round-same}
 use Rattle.float.specs.Narrowed.{narrowed, NarrowSays, NarrowBitsSays}
 use Rattle.float.specs.Held.{round-own}
-use Rattle.float.specs.Numbers.{round-no-nan}
+use Rattle.float.specs.Numbers.{nan-is, round-no-nan}
 
 pub NarrowSays-unique : (x r s : Float) → NarrowSays x r → NarrowSays x s → r ≡ s
 NarrowSays-unique x r s p q = p ∙ sym q
@@ -37,7 +38,13 @@ narrowed-fits nan = tt
 narrowed-fits (inf s) = tt
 narrowed-fits (fin s m e) = round-fits binary32 s (m * up e) (down e)
 
--- what f32 holds stays as it is
+-- any NaN gives 7FC00000
+pub nan-narrows : (b r : ℕ) → T (nanBits binary64 b) → NarrowBitsSays b r → r ≡ 0x7FC0_0000
+unfolding narrowed toBits
+nan-narrows b r h e =
+    e ∙ ap (λ (v : Float). toBits binary32 (narrowed v)) (nan-is (ofBits binary64 b) (sym (nanBits-is binary64 b) ∙ is-true (nanBits binary64 b) h))
+
+-- what f32 holds stays as it is, its subnormals too
 pub narrowed-same : (x : Float) → T (fits binary32 x) → narrowed x ≡ x
 unfolding narrowed
 narrowed-same nan h = refl

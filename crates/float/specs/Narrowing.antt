@@ -63,23 +63,23 @@ abbrev pub answer : ℕ → ℕ
 answer b = toBits binary32 (narrowed (ofBits binary64 b))
 
 abbrev pub sgn : ℕ → ℕ
-sgn b = b / 9223372036854775808 * 2147483648
+sgn b = b / 0x8000_0000_0000_0000 * 0x8000_0000
 
-sign-is : (b : ℕ) → b < 18446744073709551616 → cond (leb 9223372036854775808 b) 2147483648 0 ≡ sgn b
-sign-is b h = go (leb 9223372036854775808 b) (leb→le 9223372036854775808 b) (nleb→lt 9223372036854775808 b)
+sign-is : (b : ℕ) → b < 0x1_0000_0000_0000_0000 → cond (leb 0x8000_0000_0000_0000 b) 0x8000_0000 0 ≡ sgn b
+sign-is b h = go (leb 0x8000_0000_0000_0000 b) (leb→le 0x8000_0000_0000_0000 b) (nleb→lt 0x8000_0000_0000_0000 b)
   where
-    go : (c : Bool) → (T c → 9223372036854775808 ≤ b) → (T (not c) → b < 9223372036854775808) → cond c 2147483648 0 ≡ sgn b
+    go : (c : Bool) → (T c → 0x8000_0000_0000_0000 ≤ b) → (T (not c) → b < 0x8000_0000_0000_0000) → cond c 0x8000_0000 0 ≡ sgn b
     go true t f = let l = t tt in omega arith
     go false t f = let l = f tt in omega arith
 
-of64 : (b : ℕ) → ofBits binary64 b ≡ ofFields binary64 (leb 9223372036854775808 b) (b % 9223372036854775808 / 4503599627370496) (b % 4503599627370496)
+of64 : (b : ℕ) → ofBits binary64 b ≡ ofFields binary64 (leb 0x8000_0000_0000_0000 b) (b % 0x8000_0000_0000_0000 / 0x10_0000_0000_0000) (b % 0x10_0000_0000_0000)
 unfolding ofBits
 of64 b = refl
 
-mid : (s : Bool) (t x : ℕ) → suc x < 2047 → ofFields binary64 s (suc x) t ≡ odd 53 s (4503599627370496 + t) x 1074
+mid : (s : Bool) (t x : ℕ) → suc x < 2047 → ofFields binary64 s (suc x) t ≡ odd 53 s (0x10_0000_0000_0000 + t) x 1074
 unfolding ofFields
 mid s t x h =
-    cond-no (eqb (suc x) 2047) (cond (eqb t 0) (inf s) nan) (odd 53 s (4503599627370496 + t) x 1074) (not-T (eqb (suc x) 2047) (λ (u : T (eqb (suc x) 2047)). differ (eqb→eq (suc x) 2047 u)))
+    cond-no (eqb (suc x) 2047) (cond (eqb t 0) (inf s) nan) (odd 53 s (0x10_0000_0000_0000 + t) x 1074) (not-T (eqb (suc x) 2047) (λ (u : T (eqb (suc x) 2047)). differ (eqb→eq (suc x) 2047 u)))
   where
     differ : suc x ≡ 2047 → ⊥
     differ e = omega arith
@@ -93,7 +93,7 @@ unfolding ofFields
 first s t = refl
 
 -- ---- a NaN
-pub at-nan : (b : ℕ) → 9218868437227405312 < b % 9223372036854775808 → answer b ≡ 2143289344
+pub at-nan : (b : ℕ) → 0x7ff0_0000_0000_0000 < b % 0x8000_0000_0000_0000 → answer b ≡ 0x7fc0_0000
 unfolding toBits narrowed
 at-nan b h = ap (λ (v : Float). toBits binary32 (narrowed v)) (above-nan binary64 b h)
 
@@ -102,38 +102,38 @@ pub closest-le : (q d k : ℕ) → 0 < d → q < suc k * d → closest q d ≤ s
 closest-le q d k p h = le-trans (nearest-le (q / d) (compare (q % d * 2) d)) (div-lt-iff-lt-mul p .1 h)
 
 -- ---- the normal range of binary32, up to the infinity: x is the exponent's field, t the digits
-module _ (s : Bool) (t y : ℕ) (H : t < 4503599627370496) where
+module _ (s : Bool) (t y : ℕ) (H : t < 0x10_0000_0000_0000) where
   abbrev q : ℕ
-  q = 4503599627370496 + t
+  q = 0x10_0000_0000_0000 + t
 
   q-lt : q < 2 ^ 53
   q-lt = omega arith
 
-  normal-le : closest q 536870912 ≤ 16777216
-  normal-le = closest-le q 536870912 16777215 (lit< tt) (omega arith)
+  normal-le : closest q 0x2000_0000 ≤ 0x100_0000
+  normal-le = closest-le q 0x2000_0000 0xff_ffff (lit< tt) (omega arith)
 
-  normal-ge : 8388608 ≤ closest q 536870912
-  normal-ge = le-trans (omega arith) (nearest-ge (q / 536870912) (compare (q % 536870912 * 2) 536870912))
+  normal-ge : 0x80_0000 ≤ closest q 0x2000_0000
+  normal-ge = le-trans (omega arith) (nearest-ge (q / 0x2000_0000) (compare (q % 0x2000_0000 * 2) 0x2000_0000))
 
   -- exponent field suc y, from 897 up
-  normal : 896 ≤ y → suc y < 2047 → narrowed (ofFields binary64 s (suc y) t) ≡ units binary32 s (closest q 536870912) (y - 896)
-  normal l h = ap narrowed (mid s t y h) ∙ narrow-odd s q y 0 (y - 896) q-lt (omega arith) (inr (refl, le-add-right 4503599627370496 t))
+  normal : 896 ≤ y → suc y < 2047 → narrowed (ofFields binary64 s (suc y) t) ≡ units binary32 s (closest q 0x2000_0000) (y - 896)
+  normal l h = ap narrowed (mid s t y h) ∙ narrow-odd s q y 0 (y - 896) q-lt (omega arith) (inr (refl, le-add-right 0x10_0000_0000_0000 t))
 
-  pub normal-under : 896 ≤ y → (y - 896) * 8388608 + closest q 536870912 < 2139095040
-      → toBits binary32 (narrowed (ofFields binary64 s (suc y) t)) ≡ cond s 2147483648 0 + ((y - 896) * 8388608 + closest q 536870912)
-  normal-under l h = ap (toBits binary32) (normal l (omega arith)) ∙ units-under s (closest q 536870912) (y - 896) normal-le (inr normal-ge) h
+  pub normal-under : 896 ≤ y → (y - 896) * 0x80_0000 + closest q 0x2000_0000 < 0x7f80_0000
+      → toBits binary32 (narrowed (ofFields binary64 s (suc y) t)) ≡ cond s 0x8000_0000 0 + ((y - 896) * 0x80_0000 + closest q 0x2000_0000)
+  normal-under l h = ap (toBits binary32) (normal l (omega arith)) ∙ units-under s (closest q 0x2000_0000) (y - 896) normal-le (inr normal-ge) h
 
-  pub normal-over : 896 ≤ y → suc y < 2047 → 2139095040 ≤ (y - 896) * 8388608 + closest q 536870912
-      → toBits binary32 (narrowed (ofFields binary64 s (suc y) t)) ≡ cond s 2147483648 0 + 2139095040
-  normal-over l m h = ap (toBits binary32) (normal l m) ∙ units-over s (closest q 536870912) (y - 896) normal-le (inr normal-ge) h
+  pub normal-over : 896 ≤ y → suc y < 2047 → 0x7f80_0000 ≤ (y - 896) * 0x80_0000 + closest q 0x2000_0000
+      → toBits binary32 (narrowed (ofFields binary64 s (suc y) t)) ≡ cond s 0x8000_0000 0 + 0x7f80_0000
+  normal-over l m h = ap (toBits binary32) (normal l m) ∙ units-over s (closest q 0x2000_0000) (y - 896) normal-le (inr normal-ge) h
 
   -- below it: a multiple of the smallest value
-  pub tiny-le : (d : ℕ) → 0 < d → closest q (2 ^ (29 + d)) ≤ 8388608
+  pub tiny-le : (d : ℕ) → 0 < d → closest q (2 ^ (29 + d)) ≤ 0x80_0000
   tiny-le d p =
-      closest-le q (2 ^ (29 + d)) 8388607 (pow-pos (29 + d))
+      closest-le q (2 ^ (29 + d)) 0x7f_ffff (pow-pos (29 + d))
       (lt-of-lt-of-le q-lt (le-trans (pow-mono {i = 53} {j = 23 + (29 + d)} (omega arith)) (le-of-eq (pow-add 2 23 (29 + d)))))
 
-  pub tiny : (d : ℕ) → y + d ≡ 896 → 0 < d → toBits binary32 (narrowed (ofFields binary64 s (suc y) t)) ≡ cond s 2147483648 0 + closest q (2 ^ (29 + d))
+  pub tiny : (d : ℕ) → y + d ≡ 896 → 0 < d → toBits binary32 (narrowed (ofFields binary64 s (suc y) t)) ≡ cond s 0x8000_0000 0 + closest q (2 ^ (29 + d))
   tiny d e p =
       let w = tiny-le d p in
       ap (toBits binary32) (ap narrowed (mid s t y (omega arith)) ∙ narrow-odd s q y d 0 q-lt (omega arith) (inl refl))
@@ -153,24 +153,24 @@ closest-zero q d h =
     go Ordering·gt c = absurd (lt-irrefl d (lt-trans c h))
 
 -- ---- the code's sum: what is above 896 * 2 ^ 52 in the pattern, its last 29 digits rounded off
-abbrev pub cut : ℕ → ℕ
-cut u = (u + 268435455 + u / 536870912 % 2) / 536870912
+abbrev pub shortened : ℕ → ℕ
+shortened u = (u + 0x0fff_ffff + u / 0x2000_0000 % 2) / 0x2000_0000
 
-cut-is : (r : ℕ) → 4039728865751334912 ≤ r
-    → (r / 4503599627370496 - 1 - 896) * 8388608 + closest (4503599627370496 + r % 4503599627370496) 536870912 ≡ cut (r - 4035225266123964416)
-cut-is r h =
-    let i = (r / 4503599627370496 - 897) * 4194304 in
-    let q = 4503599627370496 + r % 4503599627370496 in
-    let e : i * 2 * 536870912 + q ≡ r - 4035225266123964416 = omega arith in
-    let f : (r / 4503599627370496 - 1 - 896) * 8388608 ≡ i * 2 = omega arith in
-    ap (λ (z : ℕ). z + closest q 536870912) f ∙ sym (closest-more i q 536870912 (lit< tt)) ∙ ap (λ (z : ℕ). closest z 536870912) e ∙ closest-div (r - 4035225266123964416) 268435456 (lit< tt)
+shortened-is : (r : ℕ) → 0x3810_0000_0000_0000 ≤ r
+    → (r / 0x10_0000_0000_0000 - 1 - 896) * 0x80_0000 + closest (0x10_0000_0000_0000 + r % 0x10_0000_0000_0000) 0x2000_0000 ≡ shortened (r - 0x3800_0000_0000_0000)
+shortened-is r h =
+    let i = (r / 0x10_0000_0000_0000 - 897) * 0x40_0000 in
+    let q = 0x10_0000_0000_0000 + r % 0x10_0000_0000_0000 in
+    let e : i * 2 * 0x2000_0000 + q ≡ r - 0x3800_0000_0000_0000 = omega arith in
+    let f : (r / 0x10_0000_0000_0000 - 1 - 896) * 0x80_0000 ≡ i * 2 = omega arith in
+    ap (λ (z : ℕ). z + closest q 0x2000_0000) f ∙ sym (closest-more i q 0x2000_0000 (lit< tt)) ∙ ap (λ (z : ℕ). closest z 0x2000_0000) e ∙ closest-div (r - 0x3800_0000_0000_0000) 0x1000_0000 (lit< tt)
 
-at-inf : (s : Bool) → toBits binary32 (narrowed (ofFields binary64 s 2047 0)) ≡ cond s 2147483648 0 + 2139095040
+at-inf : (s : Bool) → toBits binary32 (narrowed (ofFields binary64 s 2047 0)) ≡ cond s 0x8000_0000 0 + 0x7f80_0000
 unfolding toBits narrowed
 at-inf s = ap (λ (v : Float). toBits binary32 (narrowed v)) (last s)
 
 -- a subnormal
-none : (s : Bool) (t : ℕ) → t < 4503599627370496 → toBits binary32 (narrowed (ofFields binary64 s 0 t)) ≡ cond s 2147483648 0 + 0
+none : (s : Bool) (t : ℕ) → t < 0x10_0000_0000_0000 → toBits binary32 (narrowed (ofFields binary64 s 0 t)) ≡ cond s 0x8000_0000 0 + 0
 none s t h =
     ap (λ (v : Float). toBits binary32 (narrowed v)) (first s t)
     ∙ ap (toBits binary32)
@@ -179,67 +179,67 @@ none s t h =
 
 -- ---- the four finite cases, in the code's words. r is the pattern without its sign
 abbrev pub body : ℕ → ℕ
-body b = b % 9223372036854775808
+body b = b % 0x8000_0000_0000_0000
 
 abbrev pub expo : ℕ → ℕ
-expo b = body b / 4503599627370496
+expo b = body b / 0x10_0000_0000_0000
 
 abbrev pub digs : ℕ → ℕ
-digs b = body b % 4503599627370496
+digs b = body b % 0x10_0000_0000_0000
 
 neg64 : ℕ → Bool
-neg64 b = leb 9223372036854775808 b
+neg64 b = leb 0x8000_0000_0000_0000 b
 
 -- by its fields x and t
 abbrev At : Bool → ℕ → ℕ → ℕ
 At s x t = toBits binary32 (narrowed (ofFields binary64 s x t))
 
-digs-lt : (b : ℕ) → digs b < 4503599627370496
+digs-lt : (b : ℕ) → digs b < 0x10_0000_0000_0000
 digs-lt b = mod-lt (body b) (lit< tt)
 
-module _ (b : ℕ) (B : b < 18446744073709551616) where
+module _ (b : ℕ) (B : b < 0x1_0000_0000_0000_0000) where
   read : (x : ℕ) → expo b ≡ x → answer b ≡ At (neg64 b) x (digs b)
   unfolding neg64
   read x e = ap (λ (v : Float). toBits binary32 (narrowed v)) (of64 b) ∙ ap (λ (t : ℕ). At (neg64 b) (expo b) t) (sym (mod-mod-pow b 11 52)) ∙ ap (λ (z : ℕ). At (neg64 b) z (digs b)) e
 
-  signed : (z : ℕ) → cond (neg64 b) 2147483648 0 + z ≡ sgn b + z
+  signed : (z : ℕ) → cond (neg64 b) 0x8000_0000 0 + z ≡ sgn b + z
   unfolding neg64
   signed z = ap (λ (w : ℕ). w + z) (sign-is b B)
 
-  pub at-under : 4039728865751334912 ≤ body b → cut (body b - 4035225266123964416) < 2139095040 → answer b ≡ sgn b + cut (body b - 4035225266123964416)
+  pub at-under : 0x3810_0000_0000_0000 ≤ body b → shortened (body b - 0x3800_0000_0000_0000) < 0x7f80_0000 → answer b ≡ sgn b + shortened (body b - 0x3800_0000_0000_0000)
   at-under l h =
-      let c = cut-is (body b) l in
+      let c = shortened-is (body b) l in
       read (suc (expo b - 1)) (omega arith)
-      ∙ normal-under (neg64 b) (digs b) (expo b - 1) (digs-lt b) (omega arith) (subst (λ (z : ℕ). z < 2139095040) (sym c) h)
-      ∙ ap (λ (z : ℕ). cond (neg64 b) 2147483648 0 + z) c
-      ∙ signed (cut (body b - 4035225266123964416))
+      ∙ normal-under (neg64 b) (digs b) (expo b - 1) (digs-lt b) (omega arith) (subst (λ (z : ℕ). z < 0x7f80_0000) (sym c) h)
+      ∙ ap (λ (z : ℕ). cond (neg64 b) 0x8000_0000 0 + z) c
+      ∙ signed (shortened (body b - 0x3800_0000_0000_0000))
 
-  pub at-over : 4039728865751334912 ≤ body b → body b ≤ 9218868437227405312 → 2139095040 ≤ cut (body b - 4035225266123964416) → answer b ≡ sgn b + 2139095040
-  at-over l m h = go (eq-or-lt-of-le m) ∙ signed 2139095040
+  pub at-over : 0x3810_0000_0000_0000 ≤ body b → body b ≤ 0x7ff0_0000_0000_0000 → 0x7f80_0000 ≤ shortened (body b - 0x3800_0000_0000_0000) → answer b ≡ sgn b + 0x7f80_0000
+  at-over l m h = go (eq-or-lt-of-le m) ∙ signed 0x7f80_0000
     where
-      go : (body b ≡ 9218868437227405312) ⊎ (body b < 9218868437227405312) → answer b ≡ cond (neg64 b) 2147483648 0 + 2139095040
-      go (inl e) = read 2047 (ap (λ (z : ℕ). z / 4503599627370496) e) ∙ ap (λ (z : ℕ). At (neg64 b) 2047 (z % 4503599627370496)) e ∙ at-inf (neg64 b)
+      go : (body b ≡ 0x7ff0_0000_0000_0000) ⊎ (body b < 0x7ff0_0000_0000_0000) → answer b ≡ cond (neg64 b) 0x8000_0000 0 + 0x7f80_0000
+      go (inl e) = read 2047 (ap (λ (z : ℕ). z / 0x10_0000_0000_0000) e) ∙ ap (λ (z : ℕ). At (neg64 b) 2047 (z % 0x10_0000_0000_0000)) e ∙ at-inf (neg64 b)
       go (inr k) =
           read (suc (expo b - 1)) (omega arith)
-          ∙ normal-over (neg64 b) (digs b) (expo b - 1) (digs-lt b) (omega arith) (omega arith) (subst (λ (z : ℕ). 2139095040 ≤ z) (sym (cut-is (body b) l)) h)
+          ∙ normal-over (neg64 b) (digs b) (expo b - 1) (digs-lt b) (omega arith) (omega arith) (subst (λ (z : ℕ). 0x7f80_0000 ≤ z) (sym (shortened-is (body b) l)) h)
 
-  pub at-tiny : 871 ≤ expo b → expo b < 897 → answer b ≡ sgn b + closest (4503599627370496 + digs b) (2 ^ (925 - expo b + 1))
+  pub at-tiny : 871 ≤ expo b → expo b < 897 → answer b ≡ sgn b + closest (0x10_0000_0000_0000 + digs b) (2 ^ (925 - expo b + 1))
   at-tiny l h =
       read (suc (expo b - 1)) (omega arith)
       ∙ tiny (neg64 b) (digs b) (expo b - 1) (digs-lt b) (897 - expo b) (omega arith) (omega arith)
-      ∙ ap (λ (z : ℕ). cond (neg64 b) 2147483648 0 + closest (4503599627370496 + digs b) (2 ^ z)) (omega arith)
-      ∙ signed (closest (4503599627370496 + digs b) (2 ^ (925 - expo b + 1)))
+      ∙ ap (λ (z : ℕ). cond (neg64 b) 0x8000_0000 0 + closest (0x10_0000_0000_0000 + digs b) (2 ^ z)) (omega arith)
+      ∙ signed (closest (0x10_0000_0000_0000 + digs b) (2 ^ (925 - expo b + 1)))
 
   pub at-zero : expo b < 871 → answer b ≡ sgn b
   at-zero h = go (expo b) refl ∙ signed 0 ∙ add-zero (sgn b)
     where
-      go : (x : ℕ) → expo b ≡ x → answer b ≡ cond (neg64 b) 2147483648 0 + 0
+      go : (x : ℕ) → expo b ≡ x → answer b ≡ cond (neg64 b) 0x8000_0000 0 + 0
       go zero e = read 0 e ∙ none (neg64 b) (digs b) (digs-lt b)
       go (suc y) e =
           read (suc y) e
           ∙ tiny (neg64 b) (digs b) y (digs-lt b) (896 - y) (omega arith) (omega arith)
-          ∙ ap (λ (z : ℕ). cond (neg64 b) 2147483648 0 + z) (closest-zero (4503599627370496 + digs b) (2 ^ (29 + (896 - y)))
+          ∙ ap (λ (z : ℕ). cond (neg64 b) 0x8000_0000 0 + z) (closest-zero (0x10_0000_0000_0000 + digs b) (2 ^ (29 + (896 - y)))
           (lt-of-lt-of-le (shl-lt 53 1 (q-lt (neg64 b) (digs b) y (digs-lt b))) (pow-mono {i = 54} {j = 29 + (896 - y)} (omega arith))))
 
-  pub tiny-small : expo b < 897 → closest (4503599627370496 + digs b) (2 ^ (925 - expo b + 1)) ≤ 8388608
-  tiny-small h = subst (λ (z : ℕ). closest (4503599627370496 + digs b) (2 ^ z) ≤ 8388608) (omega arith) (tiny-le (neg64 b) (digs b) 0 (digs-lt b) (897 - expo b) (omega arith))
+  pub tiny-small : expo b < 897 → closest (0x10_0000_0000_0000 + digs b) (2 ^ (925 - expo b + 1)) ≤ 0x80_0000
+  tiny-small h = subst (λ (z : ℕ). closest (0x10_0000_0000_0000 + digs b) (2 ^ z) ≤ 0x80_0000) (omega arith) (tiny-le (neg64 b) (digs b) 0 (digs-lt b) (897 - expo b) (omega arith))

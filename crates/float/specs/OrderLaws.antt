@@ -153,16 +153,6 @@ lt-skip (fin s m e) (inf true) (fin u c g) n h k = absurd h
 lt-skip (fin s m e) (fin t b d) (inf u) n h k = k
 lt-skip (fin s m e) (fin t b d) (fin u c g) n h k = finite s t u (m * up e) (down e) (b * up d) (down d) (c * up g) (down g) (down-pos g) h k
 
-pub lt-numbers : (x y : Float) → T (lt x y) → T (number x) × T (number y)
-unfolding lt isNan
-lt-numbers nan y h = absurd h
-lt-numbers (inf s) nan h = absurd h
-lt-numbers (inf s) (inf t) h = (tt, tt)
-lt-numbers (inf s) (fin t n d) h = (tt, tt)
-lt-numbers (fin s m e) nan h = absurd h
-lt-numbers (fin s m e) (inf t) h = (tt, tt)
-lt-numbers (fin s m e) (fin t n d) h = (tt, tt)
-
 or-left : (a b : Bool) → T a → T (a || b)
 or-left true b t = tt
 or-left false b t = absurd t
@@ -170,12 +160,6 @@ or-left false b t = absurd t
 pub lt-le : (x y : Float) → T (lt x y) → T (le x y)
 unfolding le
 lt-le x y h = or-left (lt x y) (eq x y) h
-
-pub lt-asym : (x y : Float) → T (lt x y) → T (not (lt y x))
-lt-asym x y h = let n = lt-numbers x y h in subst T (le-is x y (n .0) (n .1)) (lt-le x y h)
-
-pub lt-trans : (x y z : Float) → T (lt x y) → T (lt y z) → T (lt x z)
-lt-trans x y z h k = lt-skip x y z (lt-numbers y z k .1) h (lt-asym y z k)
 
 pub le-numbers : (x y : Float) → T (le x y) → T (number x) × T (number y)
 unfolding le lt eq isNan
@@ -186,3 +170,12 @@ le-numbers (inf s) (fin t n d) h = (tt, tt)
 le-numbers (fin s m e) nan h = absurd h
 le-numbers (fin s m e) (inf t) h = (tt, tt)
 le-numbers (fin s m e) (fin t n d) h = (tt, tt)
+
+pub lt-numbers : (x y : Float) → T (lt x y) → T (number x) × T (number y)
+lt-numbers x y h = le-numbers x y (lt-le x y h)
+
+pub lt-asym : (x y : Float) → T (lt x y) → T (not (lt y x))
+lt-asym x y h = let n = lt-numbers x y h in subst T (le-is x y (n .0) (n .1)) (lt-le x y h)
+
+pub lt-trans : (x y z : Float) → T (lt x y) → T (lt y z) → T (lt x z)
+lt-trans x y z h k = lt-skip x y z (lt-numbers y z k .1) h (lt-asym y z k)

@@ -1,4 +1,4 @@
--- Laws: two answers of a conversion are equal; a NaN's patterns; there and back.
+-- Laws: two answers of a conversion are equal; the patterns that stand for a NaN.
 use mathlib.Core.Path.{_≡_, refl, sym, _∙_}
 use Prim.Native.Nat.{ℕ}
 use lib.Ieee.{Float, nan, binary32, binary64, toBits}

@@ -86,62 +86,62 @@ size-drop p z k h (inr l) = omega arith
 
 -- q * 2 ^ k units, with at most 24 digits in q, and all of them where a digit was dropped
 abbrev pub Full : ℕ → ℕ → Type 0
-Full q k = (k ≡ 0) ⊎ (8388608 ≤ q)
+Full q k = (k ≡ 0) ⊎ (0x80_0000 ≤ q)
 
-full-size : (q k : ℕ) → q < 16777216 → Full q k → size (q * 2 ^ k) - 24 ≡ k
+full-size : (q k : ℕ) → q < 0x100_0000 → Full q k → size (q * 2 ^ k) - 24 ≡ k
 full-size q k h (inl e) = size-drop 24 (size (q * 2 ^ k)) k (size-le (q * 2 ^ k) (24 + k) (shl-lt 24 k h)) (inl e)
 full-size q k h (inr l) =
     let g = size-gt (q * 2 ^ k) (23 + k) (le-trans (le-of-eq (pow-add 2 23 k)) (mul-le-mul-right (2 ^ k) l)) in
     size-drop 24 (size (q * 2 ^ k)) k (size-le (q * 2 ^ k) (24 + k) (shl-lt 24 k h)) (inr (omega arith))
 
-written : (x : Float) (s : Bool) (q k : ℕ) → HasValue x s (q * 2 ^ k) (2 ^ 149) → q < 16777216 → Full q k → toBits binary32 x ≡ cond s 2147483648 0 + k * 8388608 + q
+written : (x : Float) (s : Bool) (q k : ℕ) → HasValue x s (q * 2 ^ k) (2 ^ 149) → q < 0x100_0000 → Full q k → toBits binary32 x ≡ cond s 0x8000_0000 0 + k * 0x80_0000 + q
 written x s q k v h u =
     toBits-value binary32 x s (q * 2 ^ k) v
-    ∙ ap (λ (j : ℕ). cond s 2147483648 0 + j * 8388608 + q * 2 ^ k / 2 ^ j) (full-size q k h u)
-    ∙ ap (λ (j : ℕ). cond s 2147483648 0 + k * 8388608 + j) (mul-div-cancel q (pow-pos k))
+    ∙ ap (λ (j : ℕ). cond s 0x8000_0000 0 + j * 0x80_0000 + q * 2 ^ k / 2 ^ j) (full-size q k h u)
+    ∙ ap (λ (j : ℕ). cond s 0x8000_0000 0 + k * 0x80_0000 + j) (mul-div-cancel q (pow-pos k))
 
 -- the infinity's pattern is 255 * 2 ^ 23, and the values from 2 ^ 277 units up are it
-under : (q k : ℕ) → q ≤ 16777216 → k * 8388608 + q < 2139095040 → Full q k → q * 2 ^ k < 2 ^ 277
+under : (q k : ℕ) → q ≤ 0x100_0000 → k * 0x80_0000 + q < 0x7f80_0000 → Full q k → q * 2 ^ k < 2 ^ 277
 under q k h l u = go (eq-or-lt-of-le h)
   where
-    few : k * 8388608 + q < 2139095040 → Full q k → k ≤ 253
+    few : k * 0x80_0000 + q < 0x7f80_0000 → Full q k → k ≤ 253
     few b (inl e) = omega arith
     few b (inr e) = omega arith
 
-    go : (q ≡ 16777216) ⊎ (q < 16777216) → q * 2 ^ k < 2 ^ 277
+    go : (q ≡ 0x100_0000) ⊎ (q < 0x100_0000) → q * 2 ^ k < 2 ^ 277
     go (inl e) = lt-of-le-of-lt (mul-le-mul h (pow-mono {i = k} {j = 252} (omega arith))) (lit< tt)
     go (inr e) = lt-of-lt-of-le (shl-lt 24 k e) (pow-mono {i = 24 + k} {j = 277} (omega (arith, few l u)))
 
-over : (q k : ℕ) → q ≤ 16777216 → 2139095040 ≤ k * 8388608 + q → Full q k → 2 ^ 277 ≤ q * 2 ^ k
+over : (q k : ℕ) → q ≤ 0x100_0000 → 0x7f80_0000 ≤ k * 0x80_0000 + q → Full q k → 2 ^ 277 ≤ q * 2 ^ k
 over q k h l u = go (eq-or-lt-of-le h)
   where
-    lots : Full q k → 8388608 ≤ q
+    lots : Full q k → 0x80_0000 ≤ q
     lots (inl e) = omega arith
     lots (inr e) = e
 
-    go : (q ≡ 16777216) ⊎ (q < 16777216) → 2 ^ 277 ≤ q * 2 ^ k
+    go : (q ≡ 0x100_0000) ⊎ (q < 0x100_0000) → 2 ^ 277 ≤ q * 2 ^ k
     go (inl e) = le-trans (pow-mono {i = 277} {j = 24 + k} (omega arith)) (le-trans (le-of-eq (pow-add 2 24 k)) (mul-le-mul-right (2 ^ k) (le-of-eq (sym e))))
     go (inr e) = le-trans (pow-mono {i = 277} {j = 23 + k} (omega arith)) (le-trans (le-of-eq (pow-add 2 23 k)) (mul-le-mul-right (2 ^ k) (lots u)))
 
 -- ---- the pattern of q * 2 ^ k units: a carry out of the digits is one more in the exponent's field
-pub units-under : (s : Bool) (q k : ℕ) → q ≤ 16777216 → Full q k → k * 8388608 + q < 2139095040
-    → toBits binary32 (units binary32 s q k) ≡ cond s 2147483648 0 + (k * 8388608 + q)
+pub units-under : (s : Bool) (q k : ℕ) → q ≤ 0x100_0000 → Full q k → k * 0x80_0000 + q < 0x7f80_0000
+    → toBits binary32 (units binary32 s q k) ≡ cond s 0x8000_0000 0 + (k * 0x80_0000 + q)
 units-under s q k h u l = go (eq-or-lt-of-le h)
   where
     v : HasValue (units binary32 s q k) s (q * 2 ^ k) (2 ^ 149)
     v = units-val binary32 s q k (under q k h l u)
 
-    go : (q ≡ 16777216) ⊎ (q < 16777216) → toBits binary32 (units binary32 s q k) ≡ cond s 2147483648 0 + (k * 8388608 + q)
-    go (inr e) = written (units binary32 s q k) s q k v e u ∙ add-assoc (cond s 2147483648 0) (k * 8388608) q
+    go : (q ≡ 0x100_0000) ⊎ (q < 0x100_0000) → toBits binary32 (units binary32 s q k) ≡ cond s 0x8000_0000 0 + (k * 0x80_0000 + q)
+    go (inr e) = written (units binary32 s q k) s q k v e u ∙ add-assoc (cond s 0x8000_0000 0) (k * 0x80_0000) q
     go (inl e) =
-        let w : q * 2 ^ k ≡ 8388608 * 2 ^ suc k = ap (λ (z : ℕ). z * 2 ^ k) e ∙ mul-assoc 8388608 2 (2 ^ k) ∙ ap (λ (z : ℕ). 8388608 * z) (sym (pow-succ' 2 k)) in
-        written (units binary32 s q k) s 8388608 (suc k) (subst (λ (z : ℕ). HasValue (units binary32 s q k) s z (2 ^ 149)) w v) (lit< tt) (inr (lit≤ tt)) ∙ omega arith
+        let w : q * 2 ^ k ≡ 0x80_0000 * 2 ^ suc k = ap (λ (z : ℕ). z * 2 ^ k) e ∙ mul-assoc 0x80_0000 2 (2 ^ k) ∙ ap (λ (z : ℕ). 0x80_0000 * z) (sym (pow-succ' 2 k)) in
+        written (units binary32 s q k) s 0x80_0000 (suc k) (subst (λ (z : ℕ). HasValue (units binary32 s q k) s z (2 ^ 149)) w v) (lit< tt) (inr (lit≤ tt)) ∙ omega arith
 
-pub units-over : (s : Bool) (q k : ℕ) → q ≤ 16777216 → Full q k → 2139095040 ≤ k * 8388608 + q
-    → toBits binary32 (units binary32 s q k) ≡ cond s 2147483648 0 + 2139095040
+pub units-over : (s : Bool) (q k : ℕ) → q ≤ 0x100_0000 → Full q k → 0x7f80_0000 ≤ k * 0x80_0000 + q
+    → toBits binary32 (units binary32 s q k) ≡ cond s 0x8000_0000 0 + 0x7f80_0000
 unfolding units toBits
 units-over s q k h u l = go (ltb (q * 2 ^ k) (2 ^ 277)) (ltb→lt (q * 2 ^ k) (2 ^ 277))
   where
-    go : (b : Bool) → (T b → q * 2 ^ k < 2 ^ 277) → toBits binary32 (cond b (odd 25 s q k 149) (inf s)) ≡ cond s 2147483648 0 + 2139095040
+    go : (b : Bool) → (T b → q * 2 ^ k < 2 ^ 277) → toBits binary32 (cond b (odd 25 s q k 149) (inf s)) ≡ cond s 0x8000_0000 0 + 0x7f80_0000
     go true t = absurd (not-le-of-lt (t tt) (over q k h l u))
     go false t = refl

@@ -31,9 +31,21 @@ pub mod Without
 pub mod WithoutLaws
 pub mod InOrder
 pub mod InOrderLaws
+-- Lists of calls.
+pub mod Calls
+pub mod CallLaws
 -- Ordered sums, and tables of them.
 pub mod F64
 pub mod Before
 pub mod BeforeLaws
+pub mod PixelSums
+pub mod PixelSumLaws
 pub mod RowSums
 pub mod RowSumLaws
+-- Pictures as lists.
+pub mod F32
+pub mod Pictures
+pub mod PictureLaws
+pub mod Strokes
+pub mod StrokeLaws
+pub mod AnswerLaws

@@ -16,15 +16,17 @@ use lib.Signed.{_≤ℤ_, _<ℤ_, leZ, ltZ}
 use mir.Syntax.{w32}
 use mir.Val.{toZ, ofZ}
 use Rattle.laws.specs.Bound.{Bounded}
-use Rattle.laws.specs.Bounds.{arg, ldw}
+use Rattle.laws.specs.Bounds.{arg, ldw, weq, wfloor}
+use Rattle.laws.specs.Fit.{no-both}
+use Rattle.laws.specs.Quotient.{floorZ}
 use Rattle.laws.specs.Parts.{zord, of+, of-, of*, le←, le→, lt→}
 use Rattle.laws.specs.Rep.{v, k, _⊕_, _⊖_, _⊗_, rep-le, rep-lt, le-rep, lt-rep}
-use Rattle.laws.specs.Order.{*ℤ-mono, *ℤ-anti, <ℤ→≤ℤ, ≤ℤ-or-<ℤ}
+use Rattle.laws.specs.Order.{*ℤ-mono, *ℤ-anti, <ℤ→≤ℤ, ≤ℤ-or-<ℤ, ≤ℤ-antisym}
 use Rattle.whole.specs.Whole.{Largest, Least, lesser, greater, ClampI64Says}
-use Rattle.whole.specs.WholeLaws.{clamp-is}
+use Rattle.whole.specs.WholeLaws.{clamp-is, floor-largest}
 use Rattle.polygon.specs.Polygon.{Point, at, side, area2, corners, leastOf, greatestOf, InRange, ExtentOfSays}
 use Rattle.polygon.specs.Sides.{line}
-use Rattle.polygon.specs.Steps.{Placed, signOf, nextOf, Kept, Above, Inner}
+use Rattle.polygon.specs.Steps.{Placed, signOf, nextOf, Rounded, Kept, Above, Inner}
 
 -- ---- the corner after i
 pub next-in : (n i : ℕ) → i + 1 < n → i + 1 ≡ nextOf n i
@@ -57,6 +59,19 @@ sign-bounded area = by (ltZ (pos 0) area)
     by : (b : Bool) → Bounded 1 (cond b (pos 1) (negsuc 0))
     by true = record { within = omega arith }
     by false = record { within = omega arith }
+
+-- ---- rounding
+pub rounds-up : (n d : ℤ) (up : Bool) (r : ℤ) → up ≡ true → Least (λ q. n ≤ℤ (q *ℤ d)) r → Rounded n d up r
+rounds-up n d up r e f = record { first = λ g. f; last = λ g. no-both e g }
+
+pub rounds-down : (n d : ℤ) (up : Bool) (r : ℤ) → up ≡ false → Largest (λ q. (q *ℤ d) ≤ℤ n) r → Rounded n d up r
+rounds-down n d up r e f = record { first = λ g. no-both g e; last = λ g. f }
+
+-- a quotient is no larger than its dividend
+pub last-bounded : {m : ℕ} (n d r : ℤ) → pos 0 <ℤ d → Largest (λ q. (q *ℤ d) ≤ℤ n) r → Bounded m n → Bounded m r
+last-bounded n d r h f b =
+    let g = floor-largest n d h in
+    weq (≤ℤ-antisym (g .largest r (f .has)) (f .largest (floorZ n d) (g .has))) (wfloor d h b)
 
 -- ---- the columns of a half line
 up : (x : ℕ) → pos 0 ≤ℤ pos x

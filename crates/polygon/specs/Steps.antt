@@ -8,6 +8,7 @@ use lib.IntN.{ℤ, pos, negsuc, _+ℤ_, _-ℤ_, _*ℤ_}
 use lib.Signed.{_≤ℤ_, ltZ}
 use Rattle.laws.specs.Bound.{Bounded}
 use Rattle.laws.specs.Ends.{endsOf, leftOf, rightOf}
+use Rattle.whole.specs.Whole.{Largest, Least}
 use Rattle.polygon.specs.Polygon.{Point, at, side, area2, areaTest, corners, polygonPixel}
 
 -- a point within the coordinate range
@@ -22,6 +23,11 @@ signOf area = cond (ltZ (pos 0) area) (pos 1) (negsuc 0)
 -- the corner after i, of n
 abbrev pub nextOf : ℕ → ℕ → ℕ
 nextOf n i = cond (ltb (i + 1) n) (i + 1) 0
+
+-- the first r with n <= r * d, or the last with r * d <= n
+pub record Rounded (n d : ℤ) (up : Bool) (r : ℤ) : Type 0 where
+  pub first : up ≡ true → Least (λ q. n ≤ℤ (q *ℤ d)) r
+  pub last : up ≡ false → Largest (λ q. (q *ℤ d) ≤ℤ n) r
 
 -- of the columns lo up to hi, those from left up to right are the ones with the property
 pub record Kept (P : ℕ → Type 0) (lo hi left right : ℕ) : Type 0 where

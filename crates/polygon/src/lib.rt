@@ -2,7 +2,8 @@
 // Each row is the intersection of its edges' half planes, as in integral.rs.
 ghost use mathlib.Core.Path.{_≡_};
 ghost use Prim.Native.Nat.{_<_, _≤_};
-ghost use lib.IntN.{_-ℤ_};
+ghost use lib.IntN.{pos, _-ℤ_};
+ghost use lib.Signed.{_<ℤ_};
 ghost use Rattle.laws.specs.Bound.{Bounded};
 ghost use Rattle.refusal.specs.Refusals.{Sized};
 ghost use Rattle.polygon.specs.Polygon.{
@@ -19,6 +20,7 @@ ghost use Rattle.polygon.specs.Steps.{
   Placed,
   signOf,
   nextOf,
+  Rounded,
   Kept,
   Above,
   Inner,
@@ -105,6 +107,17 @@ fn next(i: usize, n: usize) -> usize
     0
 }
 
+// n / d, rounded up for the first column of a run and down for the last: never towards 0.
+fn rounded(n: i64, d: i64, up: bool) -> i64
+    requires { ⌜ pos 0 <ℤ d ⌝ }
+    ensures { λ r. ⌜ Rounded n d up r ⌝ }
+{
+    if up {
+        return whole::div_ceil_i64(n, d);
+    }
+    whole::div_floor_i64(n, d)
+}
+
 // Of the columns lo up to hi, those at which a * x + c is at or above 0.
 fn half_line(a: i64, c: i64, lo: usize, hi: usize) -> Run
     requires slope { ⌜ Bounded 16382 a ⌝ }
@@ -118,7 +131,7 @@ fn half_line(a: i64, c: i64, lo: usize, hi: usize) -> Run
                 right: hi,
             };
         }
-        let last = whole::div_floor_i64(c, 0 - a);
+        let last = rounded(c, 0 - a, false);
         return Run {
             left: lo,
             right: whole::clamp_i64(last + 1, hi),
@@ -127,7 +140,7 @@ fn half_line(a: i64, c: i64, lo: usize, hi: usize) -> Run
     if a <= 0 {
         return Run { left: 0, right: 0 };
     }
-    let first = whole::div_ceil_i64(0 - c, a);
+    let first = rounded(0 - c, a, true);
     Run {
         left: whole::max_usize(lo, whole::clamp_i64(first, hi)),
         right: hi,

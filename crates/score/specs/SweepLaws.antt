@@ -2,7 +2,8 @@
 use mathlib.Core.Path.{_≡_, refl, sym, _∙_, ap, subst}
 use mathlib.Core.Bool.{Bool, true, false, not}
 use mathlib.Core.Logic.{_⊎_, inl, inr, ⊎-elim}
-use Prim.Native.Nat.{ℕ, zero, suc, _≤_, _<_}
+use Prim.Native.Nat.{ℕ, zero, suc, _+_, _≤_, _<_}
+use native.Mathlib.Numerals.{add-one}
 use native.Mathlib.Omega.{arith}
 use native.Mathlib.Decide.{decLe}
 use lib.Dec.{T}
@@ -113,3 +114,13 @@ best-unique change n i j a b = by (decLe i j) (decLe j i)
     by (yes h) (yes l) = omega arith
     by (no h) l = absurd (clash j i b a (omega arith))
     by (yes h) (no l) = absurd (clash i j a b (omega arith))
+
+-- ---- a step of the code
+module _ (change : ℕ → Float) (k : ℕ) where
+  pub bestOf-taken : lt (change k) (changeAt change (bestOf change k)) ≡ true → bestOf change (k + 1) ≡ at k
+  unfolding bestOf
+  bestOf-taken h = rw add-one (ap (λ (b : Bool). better b k (bestOf change k)) h)
+
+  pub bestOf-kept : lt (change k) (changeAt change (bestOf change k)) ≡ false → bestOf change (k + 1) ≡ bestOf change k
+  unfolding bestOf
+  bestOf-kept h = rw add-one (ap (λ (b : Bool). better b k (bestOf change k)) h)

@@ -39,21 +39,21 @@ pub record Updated (w h : ℕ) (target canvas : List Float) (ymin ymax : ℤ) (o
   pub targets : TargetKept f64Sums w h (λ s. entry w old (ofTarget s)) (λ s. entry w new (ofTarget s))
   pub canvases : CanvasRedone f64Sums w h (redone ymin ymax) (picture w target) (picture w canvas) (λ s. entry w old (ofCanvas s)) (λ s. entry w new (ofCanvas s))
 
--- the refusals
-abbrev pub badLengths : ℕ → ℕ → List Float → List Float → List Float → Bool
-badLengths w h target canvas table =
-    badPicture w h (length target) || badPicture w h (length canvas) || badTable w h (length table)
+-- the refusals; of each slice that is lent its length is tested
+abbrev pub badLengths : ℕ → ℕ → ℕ → ℕ → ℕ → Bool
+badLengths w h target canvas table = badPicture w h target || badPicture w h canvas || badTable w h table
 
 unfoldable pub buildRefusal : List Float → List Float → ℕ → ℕ → List Float → ℕ
 buildRefusal target canvas w h table =
     lowest
     (sizeIf (badSize w h)
-    ∷ lengthIf (badLengths w h target canvas table)
+    ∷ lengthIf (badLengths w h (length target) (length canvas) (length table))
     ∷ pixelIf (not (allWithin target) || not (allWithin canvas))
     ∷ [])
 
 unfoldable pub updateRefusal : List Float → List Float → ℕ → ℕ → List Float → ℕ
-updateRefusal target canvas w h table = lowest (sizeIf (badSize w h) ∷ lengthIf (badLengths w h target canvas table) ∷ [])
+updateRefusal target canvas w h table =
+    lowest (sizeIf (badSize w h) ∷ lengthIf (badLengths w h (length target) (length canvas) (length table)) ∷ [])
 
 -- what the calls promise: the number r, and of the table, old as it was handed in, new as it is left
 pub record BuildSays (target canvas : List Float) (w h : ℕ) (old : List Float) (r : ℕ) (new : List Float) : Type 0 where

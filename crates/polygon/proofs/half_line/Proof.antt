@@ -1,18 +1,19 @@
 -- `polygon::half_line` meets its contract. Where a is negative, c / -a rounded down is the last column; where it is positive, -c / a rounded up is the first.
 use borrow.Author.Needs.{needs, sfits-of}
-use mathlib.Core.Path.{_≡_, subst}
+use mathlib.Core.Path.{refl, subst}
+use mathlib.Core.Bool.{true, false}
 use native.Mathlib.Omega.{arith}
-use lib.IntN.{ℤ, pos, _-ℤ_, _+ℤ_}
+use lib.IntN.{ℤ, pos, _-ℤ_, _*ℤ_}
 use lib.Signed.{_≤ℤ_, _<ℤ_}
 use mir.Syntax.{w64}
 use mir.Val.{toZ, ofZ}
 use mir.Facts.{toZ-ofZ}
 use Rattle.laws.specs.Parts.{zord, of-}
 use Rattle.laws.specs.Fit.{le-true, le-false, read}
-use Rattle.laws.specs.Bounds.{Is, ld, lit, is-, is+, fits-, fits+, weq, wfloor}
-use Rattle.whole.specs.Whole.{Overflows, DivFloorI64Says, DivCeilI64Says, ClampI64Says}
-use Rattle.whole.specs.WholeLaws.{says-floor}
-use Rattle.polygon.specs.StepLaws.{half-all, half-none, half-last, half-first}
+use Rattle.laws.specs.Bounds.{Is, ld, lit, is-, is+, fits-, fits+}
+use Rattle.whole.specs.Whole.{Largest, ClampI64Says}
+use Rattle.polygon.specs.Steps.{Rounded}
+use Rattle.polygon.specs.StepLaws.{last-bounded, half-all, half-none, half-last, half-first}
 use Rattle.polygon.proofs.half_line.Statement.{statement}
 use Rattle.polygon.proofs.half_line.Tie as tie
 
@@ -33,24 +34,22 @@ above-0 c = let h = below c in omega (arith, zord, of- (pos 0) (c .before .befor
 minus-a : (s : tie.Start) → Is (toZ w64 (ofZ w64 (pos 0 -ℤ toZ w64 (ofZ w64 (s .args .a))))) (pos 0 -ℤ s .args .a) 16382
 minus-a s = is- w64 tt (lit (pos 0)) (ld (s .fits .a) (s .pre .0))
 
-sub-div-floor-i64 : tie.Need-sub-div-floor-i64
-sub-div-floor-i64 c = let s = c .before .before in fits- tt (lit (pos 0)) (ld (s .fits .a) (s .pre .0))
+sub-rounded : tie.Need-sub-rounded
+sub-rounded c = let s = c .before .before in fits- tt (lit (pos 0)) (ld (s .fits .a) (s .pre .0))
 
-div-floor-i64-requires : tie.Need-div-floor-i64-requires
-div-floor-i64-requires c κs = search needs
+rounded-requires : tie.Need-rounded-requires
+rounded-requires c κs = rw (minus-a (c .before .before) .is) (above-0 c)
 
-last-says : (c : tie.After-div-floor-i64) → DivFloorI64Says (c .before .before .before .args .c) (pos 0 -ℤ c .before .before .before .args .a) (c .div-floor-i64 .result)
-last-says c = let s = c .before .before .before in rw (minus-a s .is, toZ-ofZ (s .fits .c)) at (c .div-floor-i64 .ensures)
+last-is : (c : tie.After-rounded) → Largest (λ q. (q *ℤ (pos 0 -ℤ c .before .before .before .args .a)) ≤ℤ c .before .before .before .args .c) (c .rounded .result)
+last-is c =
+    let s = c .before .before .before in
+    let says : Rounded (s .args .c) (pos 0 -ℤ s .args .a) false (c .rounded .result) = rw (minus-a s .is, toZ-ofZ (s .fits .c)) at (c .rounded .ensures) in
+    says .last refl
 
--- a quotient is no larger than its dividend
-last-read : (c : tie.After-div-floor-i64) → Is (toZ w64 (ofZ w64 (c .div-floor-i64 .result))) (c .div-floor-i64 .result) 1000000000
+last-read : (c : tie.After-rounded) → Is (toZ w64 (ofZ w64 (c .rounded .result))) (c .rounded .result) 1000000000
 last-read c =
     let s = c .before .before .before in
-    let b = pos 0 -ℤ s .args .a in
-    let h : pos 0 <ℤ b = above-0 (c .before) in
-    let some : b ≡ pos 0 → ⊥ = λ e. omega (arith, zord) in
-    let holds : Overflows (s .args .c) b → ⊥ = λ o. omega (arith, zord, o .1) in
-    ld (sfits-of (c .div-floor-i64 .ok)) (weq (says-floor (s .args .c) b _ some holds (last-says c)) (wfloor b h (s .pre .1)))
+    ld (sfits-of (c .rounded .ok)) (last-bounded (s .args .c) (pos 0 -ℤ s .args .a) (c .rounded .result) (above-0 (c .before)) (last-is c) (s .pre .1))
 
 add-clamp-i64 : tie.Need-add-clamp-i64
 add-clamp-i64 c = fits+ tt (last-read c) (lit (pos 1))
@@ -62,9 +61,9 @@ returns-2 : tie.Need-returns-2
 returns-2 c =
     let d = c .before in
     let s = d .before .before .before in
-    half-last (s .args .a) (s .args .c) (s .args .lo) (s .args .hi) (d .div-floor-i64 .result) (c .clamp-i64 .result)
+    half-last (s .args .a) (s .args .c) (s .args .lo) (s .args .hi) (d .rounded .result) (c .clamp-i64 .result)
     (below (d .before))
-    (last-says d .positive (above-0 (d .before)))
+    (last-is d)
     (subst (λ (z : ℤ). ClampI64Says z (s .args .hi) (c .clamp-i64 .result)) (is+ w64 tt (last-read d) (lit (pos 1)) .is) (c .clamp-i64 .ensures))
 
 returns-3 : tie.Need-returns-3
@@ -77,11 +76,14 @@ returns-3 c = let s = c .before .before in
 minus-c : (s : tie.Start) → Is (toZ w64 (ofZ w64 (pos 0 -ℤ toZ w64 (ofZ w64 (s .args .c))))) (pos 0 -ℤ s .args .c) 1000000000
 minus-c s = is- w64 tt (lit (pos 0)) (ld (s .fits .c) (s .pre .1))
 
-sub-div-ceil-i64 : tie.Need-sub-div-ceil-i64
-sub-div-ceil-i64 c = let s = c .before .before in fits- tt (lit (pos 0)) (ld (s .fits .c) (s .pre .1))
+above-a : (c : tie.Else3) → pos 0 <ℤ c .before .before .args .a
+above-a c = le-false _ _ (rw (toZ-ofZ, c .before .before .fits .a) at (c .if3 .left))
 
-div-ceil-i64-requires : tie.Need-div-ceil-i64-requires
-div-ceil-i64-requires c κs = search needs
+sub-rounded-2 : tie.Need-sub-rounded-2
+sub-rounded-2 c = let s = c .before .before in fits- tt (lit (pos 0)) (ld (s .fits .c) (s .pre .1))
+
+rounded-requires-2 : tie.Need-rounded-requires-2
+rounded-requires-2 c κs = rw (toZ-ofZ (c .before .before .fits .a)) (above-a c)
 
 clamp-i64-requires-2 : tie.Need-clamp-i64-requires-2
 clamp-i64-requires-2 c κs = search needs
@@ -94,25 +96,24 @@ returns-4 c =
     let d = c .before .before in
     let s = d .before .before .before in
     let a = s .args .a in
-    let h : pos 0 <ℤ a = le-false _ _ (rw (toZ-ofZ, s .fits .a) at (d .before .if3 .left)) in
-    let says : DivCeilI64Says (pos 0 -ℤ s .args .c) a (d .div-ceil-i64 .result) = rw (minus-c s .is, toZ-ofZ (s .fits .a)) at (d .div-ceil-i64 .ensures) in
+    let says : Rounded (pos 0 -ℤ s .args .c) a true (d .rounded2 .result) = rw (minus-c s .is, toZ-ofZ (s .fits .a)) at (d .rounded2 .ensures) in
     rw (c .max-usize .ensures)
-    (half-first a (s .args .c) (s .args .lo) (s .args .hi) (d .div-ceil-i64 .result) (c .before .clamp-i642 .result) h (says .positive h)
-    (subst (λ (z : ℤ). ClampI64Says z (s .args .hi) (c .before .clamp-i642 .result)) (read w64 (d .div-ceil-i64 .result) (d .div-ceil-i64 .ok)) (c .before .clamp-i642 .ensures)))
+    (half-first a (s .args .c) (s .args .lo) (s .args .hi) (d .rounded2 .result) (c .before .clamp-i642 .result) (above-a (d .before)) (says .first refl)
+    (subst (λ (z : ℤ). ClampI64Says z (s .args .hi) (c .before .clamp-i642 .result)) (read w64 (d .rounded2 .result) (d .rounded2 .ok)) (c .before .clamp-i642 .ensures)))
 
 pub half-line-spec : {M : Type 1} → statement M
 half-line-spec =
     tie.close
     (tie.spec
     returns
-    sub-div-floor-i64
-    div-floor-i64-requires
+    sub-rounded
+    rounded-requires
     add-clamp-i64
     clamp-i64-requires
     returns-2
     returns-3
-    sub-div-ceil-i64
-    div-ceil-i64-requires
+    sub-rounded-2
+    rounded-requires-2
     clamp-i64-requires-2
     max-usize-requires
     returns-4)

@@ -26,7 +26,7 @@ returns-3 : tie.Need-returns-3
 unfolding negated
 returns-3 c =
     let v = c .before .before .before .v .given in
-    rw (v .1) (simp (ne-eqb (v .0 .0) 0 (c .before .if1 .left), lt-ltb 9223372036854775808 (v .0 .0) (c .if2 .taken)))
+    rw (v .1) (simp (ne-eqb (v .0 .0) 0 (c .before .if1 .left), lt-ltb 9223372036854775808 (v .0 .0) (omega arith)))
 
 sub-t4 : tie.Need-sub-t4
 sub-t4 c = search needs
@@ -38,7 +38,7 @@ returns-4 : tie.Need-returns-4
 unfolding negated
 returns-4 c =
     let v = c .before .before .before .v .given in
-    rw (v .1) (simp (ne-eqb (v .0 .0) 0 (c .before .if1 .left), le-ltb 9223372036854775808 (v .0 .0) (c .if2 .left)) (ap Number (omega arith)))
+    rw (v .1) (simp (ne-eqb (v .0 .0) 0 (c .before .if1 .left), le-ltb 9223372036854775808 (v .0 .0) (omega arith)) (ap Number (omega arith)))
 
 pub negative-spec : {M : Type 1} → statement M
 negative-spec = tie.close (tie.spec enum-known-v enum-told returns returns-2 returns-3 sub-t4 add-t5 returns-4)

@@ -1,0 +1,100 @@
+//! Times two sides of an entry in turns and prints both medians and the median of the rounds' ratios.
+//! Every run answers a checksum of all its answers, and both sides' must be equal. Times are of the
+//! thread's own clock, so what else the machine does counts little.
+
+#[repr(C)]
+struct Timespec {
+    seconds: i64,
+    nanos: i64,
+}
+
+unsafe extern "C" {
+    fn clock_gettime(clock: i32, time: *mut Timespec) -> i32;
+}
+
+/// The time that this thread has run, in nanoseconds (CLOCK_THREAD_CPUTIME_ID of Linux).
+fn now() -> f64 {
+    let mut t = Timespec { seconds: 0, nanos: 0 };
+    assert_eq!(unsafe { clock_gettime(3, &mut t) }, 0);
+    t.seconds as f64 * 1e9 + t.nanos as f64
+}
+
+pub struct Entry {
+    pub name: &'static str,
+    /// How many calls or pixels one run works through; times are printed for one.
+    pub units: u64,
+    pub ours: Box<dyn FnMut() -> u64>,
+    pub rust: Box<dyn FnMut() -> u64>,
+}
+
+/// Takes one more answer into a checksum.
+#[inline]
+pub fn taken(sum: u64, answer: u64) -> u64 {
+    (sum.rotate_left(5) ^ answer).wrapping_mul(0x9E37_79B9_7F4A_7C15)
+}
+
+/// Nanoseconds for so many runs, and the last checksum.
+fn timed(side: &mut dyn FnMut() -> u64, runs: u32) -> (f64, u64) {
+    let start = now();
+    let mut sum = 0;
+    for _ in 0..runs {
+        sum = std::hint::black_box(side());
+    }
+    (now() - start, sum)
+}
+
+fn median(mut times: Vec<f64>) -> f64 {
+    times.sort_by(f64::total_cmp);
+    times[times.len() / 2]
+}
+
+fn shown(nanos: f64) -> String {
+    match nanos {
+        n if n < 1e3 => format!("{n:.2} ns"),
+        n if n < 1e6 => format!("{:.2} us", n / 1e3),
+        n => format!("{:.2} ms", n / 1e6),
+    }
+}
+
+/// The program: ROUNDS [NAME-PART].
+pub fn main(entries: Vec<Entry>) {
+    let args: Vec<String> = std::env::args().skip(1).collect();
+    let rounds: usize = args[0].parse().expect("a number of rounds");
+    let part = args.get(1).map(String::as_str).unwrap_or("");
+    println!("{:44} {:>12} {:>12} {:>7}", "medians, for one call or pixel", "ours", "Rust", "ratio");
+    let mut different = 0;
+    for mut e in entries.into_iter().filter(|e| e.name.contains(part)) {
+        // So many runs at a time that the clock's grain does not matter; this warms both up, too.
+        let mut runs = 1;
+        while timed(&mut e.ours, runs).0.min(timed(&mut e.rust, runs).0) < 2e6 {
+            runs *= 2;
+        }
+        let (mut ours, mut rust) = (Vec::new(), Vec::new());
+        let mut equal = true;
+        for round in 0..rounds {
+            let (a, b) = if round % 2 == 0 {
+                let a = timed(&mut e.ours, runs);
+                (a, timed(&mut e.rust, runs))
+            } else {
+                let b = timed(&mut e.rust, runs);
+                (timed(&mut e.ours, runs), b)
+            };
+            equal &= a.1 == b.1;
+            ours.push(a.0);
+            rust.push(b.0);
+        }
+        let each = runs as f64 * e.units as f64;
+        let ratio = median(ours.iter().zip(&rust).map(|(a, b)| a / b).collect());
+        let (a, b) = (median(ours) / each, median(rust) / each);
+        println!(
+            "{:44} {:>12} {:>12} {:>7.2}{}",
+            e.name,
+            shown(a),
+            shown(b),
+            ratio,
+            if equal { "" } else { "  ANSWERS DIFFER" }
+        );
+        different += !equal as i32;
+    }
+    std::process::exit(if different > 0 { 1 } else { 0 });
+}
