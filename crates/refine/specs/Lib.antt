@@ -2,6 +2,8 @@ pub mod Refinement
 pub mod Lists
 pub mod Blank
 pub mod Ranges
+pub mod Scenes
 pub mod RefinementLaws
+pub mod PartLaws
 pub mod RangeLaws
 pub mod ChainLaws

@@ -2,11 +2,17 @@
 ghost use mathlib.Core.Path.{_≡_};
 ghost use mathlib.Core.List.{List, [], _∷_, _++_};
 ghost use Prim.Native.Nat.{_+_, _-_, _*_, _<_, _≤_};
+ghost use lib.Dec.{T};
+ghost use lib.ListN.{length, take};
+ghost use lib.Seq.{slice};
+ghost use Rattle.laws.specs.Every.{every};
 ghost use Rattle.laws.specs.Without.{without};
 ghost use Rattle.refine.specs.declared.Shape.{Shape};
 ghost use Rattle.refine.specs.Lists.{listed, shapeIn};
-ghost use Rattle.refusal.specs.Refusals.{lowest};
-ghost use Rattle.refine.specs.Ranges.{colourFits, rangesOf, shapesIn, sizeTests, rangeTests};
+ghost use Rattle.refusal.specs.Refusals.{Sized, lowest};
+ghost use Rattle.refine.specs.Ranges.{placesFit, colourFits, rangesOf, shapesIn, sizeTests, rangeTests};
+ghost use Rattle.refine.specs.Refinement.{paintedOn};
+ghost use Rattle.refine.specs.Scenes.{shapePainted};
 use cover::Kind;
 
 // A shape with its opacity and colour. It is read by its fields' names alone.
@@ -89,6 +95,39 @@ fn exchange(s: Shapes, j: usize, x: Shape) -> Shapes
     ensures { λ r. ⌜ (r .count ≡ s .count) × (listed r ≡ without j (listed s) ++ (x ∷ [])) ⌝ }
 {
     push(remove(s, j), x)
+}
+
+// ---- drawing
+
+// A shape is painted as it stands. It is read by its fields' names.
+fn paint(w: usize, h: usize, s: Shape, canvas: &mut [f32])
+    requires { ⌜ Sized w h × (length (now canvas) ≡ h * w * 3) × T (placesFit s) ⌝ }
+    ensures { λ _. ⌜ now (canvas .exit) ≡ shapePainted w h s (now (canvas .entry)) ⌝ }
+{}
+
+// The shapes from `from` up to `to` of the list, in their order.
+fn paint_part(w: usize, h: usize, s: Shapes, from: usize, to: usize, canvas: &mut [f32])
+    requires { ⌜ Sized w h × (length (now canvas) ≡ h * w * 3) ⌝ }
+    requires { ⌜ (from ≤ to) × (to ≤ s .count) × (s .count ≤ 64) × T (every placesFit (listed s)) ⌝ }
+    ensures { λ _. ⌜ now (canvas .exit) ≡ paintedOn (shapePainted w h) (now (canvas .entry)) (slice from to (s .items)) ⌝ }
+{
+    let mut i = from;
+    while i < to {
+        let x = s.items[i];
+        paint(w, h, x, canvas);
+        i += 1;
+    }
+}
+
+fn copy(from: &[f32], to: &mut [f32])
+    requires { ⌜ length (now from) ≡ length (now to) ⌝ }
+    ensures { λ _. ⌜ now (to .exit) ≡ now (from .entry) ⌝ }
+{
+    let mut i = 0;
+    while i < to.len() {
+        to[i] = from[i];
+        i += 1;
+    }
 }
 
 // ---- refusals
