@@ -2,13 +2,13 @@
 use mathlib.Core.Bool.{Bool, not, _&&_, _||_}
 use mathlib.Core.List.{List, [], _∷_, _++_}
 use mathlib.Core.Option.{Option, none, some}
-use Prim.Native.Nat.{ℕ}
-use lib.Dec.{ltb}
+use Prim.Native.Nat.{ℕ, _≤_}
+use lib.Dec.{T, ltb}
 use lib.Ieee.{Float}
 use lib.ListN.{length}
 use Rattle.laws.specs.Every.{every}
 use Rattle.float.specs.Within.{within, allWithin}
-use Rattle.refusal.specs.Refusals.{Test, lowest, sizeIf, lengthIf, countIf, placeIf, opacityIf, colourIf, pixelIf, badSize}
+use Rattle.refusal.specs.Refusals.{Test, Sized, lowest, sizeIf, lengthIf, countIf, placeIf, opacityIf, colourIf, pixelIf, badSize}
 use Rattle.refusal.specs.Lengths.{badPicture}
 use Rattle.cover.specs.Cover.{badPlaces}
 use Rattle.refine.specs.declared.Shape.{Shape}
@@ -26,6 +26,10 @@ opacityFits s = within (s .opacity)
 
 abbrev pub colourFits : Float → Float → Float → Bool
 colourFits red green blue = within red && within green && within blue
+
+-- all three
+unfoldable pub fits : Shape → Bool
+fits s = placesFit s && opacityFits s && colourFits (s .red) (s .green) (s .blue)
 
 abbrev pub rangesOf : List Shape → Ranges
 rangesOf l = record {
@@ -65,3 +69,9 @@ refusalOf w h red green blue target shapes candidates passes first second =
     lowest
     (sizeTests w h (length target) first second (shapes .count) (candidates .count) passes
     ++ rangeTests (rangesOf (lookedAt shapes candidates)) red green blue target)
+
+-- ---- what drawing a list rests on: the tests were passed
+pub record Drawable (w h : ℕ) (s : Shapes) : Type 0 where
+  pub sized : Sized w h
+  pub few : s .count ≤ 64
+  pub fitting : T (every fits (listed s))

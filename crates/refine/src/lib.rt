@@ -10,9 +10,10 @@ ghost use Rattle.laws.specs.Without.{without};
 ghost use Rattle.refine.specs.declared.Shape.{Shape};
 ghost use Rattle.refine.specs.Lists.{listed, shapeIn};
 ghost use Rattle.refusal.specs.Refusals.{Sized, lowest};
-ghost use Rattle.refine.specs.Ranges.{placesFit, colourFits, rangesOf, shapesIn, sizeTests, rangeTests};
+ghost use Rattle.refine.specs.Ranges.{fits, Drawable, colourFits, rangesOf, shapesIn, sizeTests, rangeTests};
 ghost use Rattle.refine.specs.Refinement.{paintedOn};
-ghost use Rattle.refine.specs.Scenes.{shapePainted};
+ghost use Rattle.refine.specs.Scenes.{shapePainted, Lent};
+ghost use Rattle.picture.specs.Pixels.{totalOf};
 use cover::Kind;
 
 // A shape with its opacity and colour. It is read by its fields' names alone.
@@ -101,14 +102,13 @@ fn exchange(s: Shapes, j: usize, x: Shape) -> Shapes
 
 // A shape is painted as it stands. It is read by its fields' names.
 fn paint(w: usize, h: usize, s: Shape, canvas: &mut [f32])
-    requires { ⌜ Sized w h × (length (now canvas) ≡ h * w * 3) × T (placesFit s) ⌝ }
+    requires { ⌜ Sized w h × (length (now canvas) ≡ h * w * 3) × T (fits s) ⌝ }
     ensures { λ _. ⌜ now (canvas .exit) ≡ shapePainted w h s (now (canvas .entry)) ⌝ }
 {}
 
 // The shapes from `from` up to `to` of the list, in their order.
 fn paint_part(w: usize, h: usize, s: Shapes, from: usize, to: usize, canvas: &mut [f32])
-    requires { ⌜ Sized w h × (length (now canvas) ≡ h * w * 3) ⌝ }
-    requires { ⌜ (from ≤ to) × (to ≤ s .count) × (s .count ≤ 64) × T (every placesFit (listed s)) ⌝ }
+    requires { ⌜ Drawable w h s × (from ≤ to) × (to ≤ s .count) × (length (now canvas) ≡ h * w * 3) ⌝ }
     ensures { λ _. ⌜ now (canvas .exit) ≡ paintedOn (shapePainted w h) (now (canvas .entry)) (slice from to (s .items)) ⌝ }
 {
     let mut i = from;
@@ -128,6 +128,59 @@ fn copy(from: &[f32], to: &mut [f32])
         to[i] = from[i];
         i += 1;
     }
+}
+
+// What is left of the shapes before j is painted on `first`, which has the first `made` of them. On `second` come those, the shapes
+// after j and the candidate: its total is answered.
+fn try_candidate(
+    w: usize,
+    h: usize,
+    target: &[f32],
+    s: Shapes,
+    made: usize,
+    j: usize,
+    x: Shape,
+    first: &mut [f32],
+    second: &mut [f32],
+) -> f64
+    requires { ⌜ Drawable w h s × (made ≤ j) × (j < s .count) × T (fits x) ⌝ }
+    requires { ⌜ Lent w h (now target) (now first) (now second) ⌝ }
+    ensures { λ r. ⌜ (now (first .exit) ≡ paintedOn (shapePainted w h) (now (first .entry)) (slice made j (s .items)))
+        × (r ≡ totalOf (now (target .entry)) (shapePainted w h x (paintedOn (shapePainted w h) (now (first .exit)) (slice (j + 1) (s .count) (s .items))))) ⌝ }
+{
+    paint_part(w, h, s, made, j, first);
+    copy(first, second);
+    paint_part(w, h, s, j + 1, s.count, second);
+    paint(w, h, x, second);
+    picture::total_any(target, second)
+}
+
+// The total of the whole list, drawn on `second` over what `first` has.
+fn whole_total(
+    w: usize,
+    h: usize,
+    target: &[f32],
+    s: Shapes,
+    first: &[f32],
+    second: &mut [f32],
+) -> f64
+    requires { ⌜ Drawable w h s ⌝ }
+    requires { ⌜ Lent w h (now target) (now first) (now second) ⌝ }
+    ensures { λ r. ⌜ r ≡ totalOf (now (target .entry)) (paintedOn (shapePainted w h) (now (first .entry)) (slice 0 (s .count) (s .items))) ⌝ }
+{
+    copy(first, second);
+    paint_part(w, h, s, 0, s.count, second);
+    picture::total_any(target, second)
+}
+
+// Both work pictures get the whole list, of which `first` has the first `made` shapes.
+fn finish(w: usize, h: usize, s: Shapes, made: usize, first: &mut [f32], second: &mut [f32])
+    requires { ⌜ Drawable w h s × (made ≤ s .count) ⌝ }
+    requires { ⌜ (length (now first) ≡ h * w * 3) × (length (now second) ≡ h * w * 3) ⌝ }
+    ensures { λ _. ⌜ (now (first .exit) ≡ paintedOn (shapePainted w h) (now (first .entry)) (slice made (s .count) (s .items))) × (now (second .exit) ≡ now (first .exit)) ⌝ }
+{
+    paint_part(w, h, s, made, s.count, first);
+    copy(first, second);
 }
 
 // ---- refusals

@@ -7,7 +7,7 @@ use lib.ListN.{length, take, getD, length-map}
 use lib.Seq.{slice, getD-take, length-take-le}
 use Rattle.laws.specs.EveryLaws.{every-each}
 use Rattle.refine.specs.Blank.{blank}
-use Rattle.refine.specs.Ranges.{placesFit}
+use Rattle.refine.specs.Ranges.{fits}
 use Rattle.refine.specs.Refinement.{paintedOn}
 use Rattle.refine.specs.Scenes.{shapePainted}
 use Rattle.refine.specs.PartLaws.{part-none, part-more}
@@ -42,12 +42,12 @@ len : (s : tie.Start Inv-loop μ-loop) → length (s .args .t3 .items) ≡ 64
 len s = simp length-map at (s .good .1 .1 .0 .1 .1 .0 .1 .0 .1)
 
 -- a shape of the list has its places in range
-placed : (s : tie.Start Inv-loop μ-loop) (i : ℕ) → i < s .args .t3 .count → T (placesFit (getD (s .args .t3 .items) i blank))
+placed : (s : tie.Start Inv-loop μ-loop) (i : ℕ) → i < s .args .t3 .count → T (fits (getD (s .args .t3 .items) i blank))
 placed s i h =
     let items = s .args .t3 .items in
     let n = s .args .t3 .count in
-    subst (λ (x : Shape). T (placesFit x)) (getD-take n items i blank h)
-    (every-each placesFit (take n items) i blank (s .pre .1 .3) (omega (arith, length-take-le n items (omega (arith, len s)))))
+    subst (λ (x : Shape). T (fits x)) (getD-take n items i blank h)
+    (every-each fits (take n items) i blank (s .pre .0 .fitting) (omega (arith, length-take-le n items (omega (arith, len s)))))
 
 -- src/lib.rt:118:9
 paint-requires : tie.Need-paint-requires Inv-loop μ-loop
@@ -55,7 +55,7 @@ paint-requires c κs =
     let l = c .before .before .before in
     let s = l .before .before in (
       search needs,
-      l .loop .inv .2 ∙ s .pre .0 .1,
+      l .loop .inv .2 ∙ s .pre .3,
       placed s (l .loop .i) (omega arith),
     )
 
