@@ -3,7 +3,10 @@ pub mod Lists
 pub mod Blank
 pub mod Ranges
 pub mod Scenes
+pub mod Answers
 pub mod RefinementLaws
 pub mod PartLaws
+pub mod CourseLaws
 pub mod RangeLaws
 pub mod ChainLaws
+pub mod AnswerLaws
