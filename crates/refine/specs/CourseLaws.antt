@@ -1,12 +1,13 @@
 -- Laws: what a program holds in the course of refinement: the list, a picture of its first shapes, the total of the whole; and that each trial and each pass keeps to the rule.
 use mathlib.Core.Path.{_≡_, refl, sym, ap, _∙_, subst}
-use mathlib.Core.Bool.{Bool, true, false, _&&_}
+use mathlib.Core.Bool.{Bool, true, false, _&&_, cond}
+use borrow.Author.Tests.{ltb-true, ltb-false}
 use mathlib.Core.List.{List, [], _∷_, _++_}
 use mathlib.Core.Option.{Option, none, some}
 use Prim.Native.Nat.{ℕ, zero, suc, _+_, _-_, _*_, _≤_, _<_}
 use native.Mathlib.Numerals.{add-one}
 use native.Mathlib.Omega.{arith}
-use lib.Dec.{T}
+use lib.Dec.{T, ltb}
 use lib.Ieee.{Float}
 use lib.Ieee.Fits.{and-i}
 use lib.ListN.{length, take, drop}
@@ -63,7 +64,7 @@ module _ (g : Scene Shape (List Float)) (size n : ℕ) where
     pub rest : passes g (limit - begun) (progress list place begun tried taken) ≡ end
 
   module _ (few : n ≤ 64) where
-    held-length : (list : Shapes) (made : ℕ) (old : Float) (first second : List Float) → Held list made old first second → length (listed list) ≡ n
+    pub held-length : (list : Shapes) (made : ℕ) (old : Float) (first second : List Float) → Held list made old first second → length (listed list) ≡ n
     held-length list made old first second k = length-take-le (list .count) (list .items) (omega (arith, k .count, k .long)) ∙ k .count
 
     -- ---- one trial
@@ -141,7 +142,7 @@ module _ (g : Scene Shape (List Float)) (size n : ℕ) where
 
     -- ---- passes
     module _ (list : Shapes) (old : Float) (first second : List Float) (k : Held list 0 old first second) (p : ℕ) (p-few : p ≤ 16) where
-      pub between-short : n < 2 → Between (refined g p (listed list)) 0 list 0 0 0 0 old first second
+      between-short : n < 2 → Between (refined g p (listed list)) 0 list 0 0 0 0 old first second
       between-short h = record {
         held = k;
         some-made = omega arith;
@@ -153,7 +154,7 @@ module _ (g : Scene Shape (List Float)) (size n : ℕ) where
         rest = sym (refined-short g p (listed list) (omega (arith, held-length list 0 old first second k)));
       }
 
-      pub between-long : 2 ≤ n → Between (refined g p (listed list)) p list 0 0 0 0 old first second
+      between-long : 2 ≤ n → Between (refined g p (listed list)) p list 0 0 0 0 old first second
       between-long h = record {
         held = k;
         some-made = omega arith;
@@ -166,6 +167,17 @@ module _ (g : Scene Shape (List Float)) (size n : ℕ) where
             ap (λ (m : ℕ). passes g m (nothingYet (listed list))) {x = p - 0} {y = p} (omega arith)
             ∙ sym (refined-long g p (listed list) (omega (arith, held-length list 0 old first second k)));
       }
+
+      pub between-start : (limit : ℕ) → limit ≡ cond (ltb n 2) 0 p → Between (refined g p (listed list)) limit list 0 0 0 0 old first second
+      between-start limit e = by (ltb n 2) refl
+        where
+          by : (b : Bool) → ltb n 2 ≡ b → Between (refined g p (listed list)) limit list 0 0 0 0 old first second
+          by true t =
+              subst (λ (m : ℕ). Between (refined g p (listed list)) m list 0 0 0 0 old first second) (sym (e ∙ ap (λ (b : Bool). cond b 0 p) t))
+              (between-short (ltb-true n 2 t))
+          by false t =
+              subst (λ (m : ℕ). Between (refined g p (listed list)) m list 0 0 0 0 old first second) (sym (e ∙ ap (λ (b : Bool). cond b 0 p) t))
+              (between-long (ltb-false n 2 t))
 
     module _ (end : Progress Shape) (limit : ℕ) (list : Shapes) (made begun tried taken : ℕ) (old : Float) (first second : List Float)
         (s : Between end limit list made begun tried taken old first second) (h : begun < limit) where

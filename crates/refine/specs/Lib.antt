@@ -8,5 +8,6 @@ pub mod RefinementLaws
 pub mod PartLaws
 pub mod CourseLaws
 pub mod RangeLaws
+pub mod WithinLaws
 pub mod ChainLaws
 pub mod AnswerLaws

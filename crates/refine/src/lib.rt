@@ -2,7 +2,8 @@
 ghost use mathlib.Core.Path.{_≡_};
 ghost use mathlib.Core.List.{List, [], _∷_, _++_};
 ghost use Prim.Native.Nat.{_+_, _-_, _*_, _<_, _≤_};
-ghost use lib.Dec.{T};
+ghost use mathlib.Core.Bool.{cond};
+ghost use lib.Dec.{T, ltb};
 ghost use lib.ListN.{length, take};
 ghost use lib.Seq.{slice};
 ghost use Rattle.laws.specs.Every.{every};
@@ -14,6 +15,7 @@ ghost use Rattle.refine.specs.Ranges.{fits, Drawable, colourFits, ranges
 ghost use Rattle.refine.specs.Refinement.{paintedOn};
 ghost use Rattle.refine.specs.Scenes.{shapePainted, Lent};
 ghost use Rattle.picture.specs.Pixels.{totalOf};
+ghost use Rattle.refine.specs.Answers.{told, refusedWith, RefineShapesSays};
 use cover::Kind;
 
 // A shape with its opacity and colour. It is read by its fields' names alone.
@@ -66,7 +68,7 @@ struct Ranges {
 // Shape j leaves, later ones move up.
 fn remove(mut s: Shapes, j: usize) -> Shapes
     requires { ⌜ (j < s .count) × (s .count ≤ 64) ⌝ }
-    ensures { λ r. ⌜ (r .count + 1 ≡ s .count) × (listed r ≡ without j (listed s)) ⌝ }
+    ensures { λ r. ⌜ (r .count + 1 ≡ s .count) × (length (r .items) ≡ 64) × (listed r ≡ without j (listed s)) ⌝ }
 {
     let n = s.count;
     let mut i = j + 1;
@@ -82,7 +84,7 @@ fn remove(mut s: Shapes, j: usize) -> Shapes
 // A shape goes last.
 fn push(mut s: Shapes, x: Shape) -> Shapes
     requires { ⌜ s .count < 64 ⌝ }
-    ensures { λ r. ⌜ (r .count ≡ s .count + 1) × (listed r ≡ listed s ++ (x ∷ [])) ⌝ }
+    ensures { λ r. ⌜ (r .count ≡ s .count + 1) × (length (r .items) ≡ 64) × (listed r ≡ listed s ++ (x ∷ [])) ⌝ }
 {
     let n = s.count;
     s.items[n] = x;
@@ -93,7 +95,7 @@ fn push(mut s: Shapes, x: Shape) -> Shapes
 // Shape j leaves, and x goes last.
 fn exchange(s: Shapes, j: usize, x: Shape) -> Shapes
     requires { ⌜ (j < s .count) × (s .count ≤ 64) ⌝ }
-    ensures { λ r. ⌜ (r .count ≡ s .count) × (listed r ≡ without j (listed s) ++ (x ∷ [])) ⌝ }
+    ensures { λ r. ⌜ (r .count ≡ s .count) × (length (r .items) ≡ 64) × (listed r ≡ without j (listed s) ++ (x ∷ [])) ⌝ }
 {
     push(remove(s, j), x)
 }
@@ -278,4 +280,128 @@ fn bad_ranges(r: Ranges, red: f32, green: f32, blue: f32, target: &[f32]) -> u8
         return refusal::PIXEL;
     }
     0
+}
+
+fn refused(refusal: u8, shapes: Shapes) -> Refined
+    ensures { λ r. ⌜ told r ≡ refusedWith refusal shapes ⌝ }
+{
+    Refined {
+        refusal,
+        shapes,
+        passes: 0,
+        trials: 0,
+        acceptances: 0,
+    }
+}
+
+// ---- refinement
+
+// With fewer than two shapes the list stays, as with 0 passes.
+fn most_passes(passes: usize, n: usize) -> usize
+    ensures { λ r. ⌜ r ≡ cond (ltb n 2) 0 passes ⌝ }
+{
+    if n < 2 { 0 } else { passes }
+}
+
+// Each pass tries every shape of the list against the next candidate. Refusals: 1 size, 2 length, 3 count, 4 place, 5 opacity,
+// 6 colour, 7 pixel of the target. The candidates are a large list: they stay in this function, which hands on one at a time.
+// A trial costs one total: `old` stays after a rejected one and is the new total after an accepted one. `first` has the first
+// `made` shapes drawn, so that a trial draws the later ones alone; a trial without a candidate draws nothing.
+pub fn refine_shapes(
+    w: usize,
+    h: usize,
+    red: f32,
+    green: f32,
+    blue: f32,
+    target: &[f32],
+    shapes: Shapes,
+    candidates: Candidates,
+    passes: usize,
+    first: &mut [f32],
+    second: &mut [f32],
+) -> Refined
+    ensures { λ r. ⌜ RefineShapesSays w h red green blue (now (target .entry)) shapes candidates passes (now (first .entry)) (now (second .entry)) r (now (first .exit)) (now (second .exit)) ⌝ }
+{
+    let n = shapes.count;
+    let offers = candidates.count;
+    let sizes = bad_sizes(
+        w,
+        h,
+        target.len(),
+        first.len(),
+        second.len(),
+        n,
+        offers,
+        passes,
+    );
+    if sizes != 0 {
+        return refused(sizes, shapes);
+    }
+    let mut ranges = look_through(shapes);
+    let mut k = 0;
+    while k < offers {
+        let slot = candidates.slots[k];
+        let what = slot.what;
+        ranges = look_at(ranges, what);
+        k += 1;
+    }
+    let numbers = bad_ranges(ranges, red, green, blue, target);
+    if numbers != 0 {
+        return refused(numbers, shapes);
+    }
+    let mut list = shapes;
+    picture::fill(w, h, red, green, blue, first);
+    let mut old = whole_total(w, h, target, list, first, second);
+    let mut made = 0;
+    let mut begun = 0;
+    let mut tried = 0;
+    let mut taken = 0;
+    let mut limit = most_passes(passes, n);
+    while begun < limit {
+        picture::fill(w, h, red, green, blue, first);
+        made = 0;
+        begun += 1;
+        let before = taken;
+        let mut j = 0;
+        let mut i = 0;
+        while i < n {
+            let trial = tried;
+            tried += 1;
+            i += 1;
+            if trial < offers {
+                let slot = candidates.slots[trial];
+                let what = slot.what;
+                match what {
+                    Candidate::Nothing => {
+                        j += 1;
+                    }
+                    Candidate::Some(x) => {
+                        let new = try_candidate(w, h, target, list, made, j, x, first, second);
+                        made = j;
+                        if new + 1e-9 < old {
+                            list = exchange(list, j, x);
+                            old = new;
+                            taken += 1;
+                        } else {
+                            j += 1;
+                        }
+                    }
+                }
+            } else {
+                j += 1;
+            }
+        }
+        // a pass with no acceptance is the last
+        if taken == before {
+            limit = begun;
+        }
+    }
+    finish(w, h, list, made, first, second);
+    Refined {
+        refusal: 0,
+        shapes: list,
+        passes: begun,
+        trials: tried,
+        acceptances: taken,
+    }
 }

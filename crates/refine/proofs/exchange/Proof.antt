@@ -16,7 +16,8 @@ push-requires c κs = search needs
 returns : tie.Need-returns
 returns c = (
   omega (arith, c .push .ensures .0, c .before .remove .ensures .0),
-  c .push .ensures .1 ∙ ap (λ (l : List Shape). l ++ (c .before .before .args .x ∷ [])) (c .before .remove .ensures .1),
+  c .push .ensures .1,
+  c .push .ensures .2 ∙ ap (λ (l : List Shape). l ++ (c .before .before .args .x ∷ [])) (c .before .remove .ensures .2),
 )
 
 pub exchange-spec : {M : Type 1} → statement M

@@ -1,7 +1,7 @@
 -- The store behind the last shape makes the first count + 1 items the list with x at its end.
 use native.Mathlib.Omega.{arith}
 use mathlib.Core.Path.{_≡_}
-use lib.ListN.{length, length-map}
+use lib.ListN.{length, length-map, length-set}
 use borrow.Author.Needs.{needs}
 use Rattle.laws.specs.WithoutLaws.{pushed}
 use Rattle.refine.proofs.push.Statement.{statement}
@@ -21,7 +21,7 @@ len : (c : tie.Start) → length (c .args .t1 .items) ≡ 64
 len c = simp length-map at (c .good .0 .1 .1 .0 .1 .0 .1)
 
 returns : tie.Need-returns
-returns c = (search needs, pushed (c .args .t1 .items) (c .args .t1 .count) (c .args .x) (omega (arith, len c)))
+returns c = (search needs, simp length-set (len c), pushed (c .args .t1 .items) (c .args .t1 .count) (c .args .x) (omega (arith, len c)))
 
 pub push-spec : {M : Type 1} → statement M
 push-spec = tie.close (tie.spec mul-x element-set-from-x add-s returns)

@@ -2,7 +2,8 @@
 use Prim.Native.Nat.{ℕ, _≤_, _<_, _-_, _+_, _*_}
 use native.Mathlib.Omega.{arith}
 use mathlib.Core.Path.{_≡_, sym, subst, ap, _∙_}
-use lib.ListN.{length, take, length-map, set, getD}
+use lib.ListN.{length, take, drop, length-map, length-drop, set, getD}
+use lib.Seq.{length-paste}
 use mathlib.Core.List.{List}
 use Rattle.refine.specs.Blank.{blank}
 use Rattle.refine.specs.declared.Shape.{Shape}
@@ -69,6 +70,9 @@ returns c =
     let l = c .before .loop in
     let e : l .i ≡ a .t1 .count = omega arith in (
       omega arith,
+      ap length (l .inv .3)
+          ∙ length-paste (a .t1 .items) (a .j) (drop (a .j + 1) (a .t1 .items)) (l .i - (a .j + 1)) (omega (arith, len (c .before .before))) (omega (arith, len (c .before .before), length-drop (a .j + 1) (a .t1 .items)))
+          ∙ len (c .before .before),
       ap (λ (x : List Shape). take (a .t1 .count - 1) x) (subst (λ (k : ℕ). l .s .items ≡ shifted (a .t1 .items) (a .j) k) e (l .inv .3))
           ∙ shifted-all (a .t1 .items) (a .j) (a .t1 .count) (omega arith) (omega (arith, len (c .before .before))),
     )
