@@ -5,3 +5,5 @@ pub mod AnswerLaws
 pub mod CoverLaws
 pub mod StepLaws
 pub mod Figures
+pub mod ReachRows
+pub mod ReachRowsLaws

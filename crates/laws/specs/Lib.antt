@@ -16,6 +16,7 @@ pub mod EndsLaws
 pub mod Runs
 pub mod Blank
 pub mod Answer
+pub mod AnswerLaws
 pub mod Holds
 pub mod RunLaws
 pub mod RunPlaces
@@ -40,6 +41,8 @@ pub mod Before
 pub mod BeforeLaws
 pub mod PixelSums
 pub mod PixelSumLaws
+pub mod RowFold
+pub mod RowFoldLaws
 pub mod RowSums
 pub mod RowSumLaws
 -- Pictures as lists.
@@ -48,4 +51,3 @@ pub mod Pictures
 pub mod PictureLaws
 pub mod Strokes
 pub mod StrokeLaws
-pub mod AnswerLaws

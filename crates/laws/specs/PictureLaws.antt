@@ -1,45 +1,19 @@
--- Laws: a list by its places; a picture and its list, one for one.
+-- Laws: a picture and its list, one for one.
 use mathlib.Core.Path.{_≡_, refl, sym, ap, _∙_}
 use mathlib.Core.Bool.{Bool}
-use mathlib.Core.List.{List, [], _∷_, _++_}
-use mathlib.Core.Logic.{_⊎_, ⊎-elim}
-use Prim.Native.Nat.{ℕ, zero, suc, _+_, _*_, _/_, _%_, _≤_, _<_}
-use native.Mathlib.Nat.{div-add-mod', mod-lt, eq-or-lt-of-le}
+use mathlib.Core.List.{List}
+use Prim.Native.Nat.{ℕ, zero, suc, _+_, _*_, _/_, _%_, _<_}
+use native.Mathlib.Nat.{div-add-mod', mod-lt}
 use native.Mathlib.Omega.{arith}
 use lib.Dec.{T}
-use lib.ListN.{length, getD, length-append, List·getD-append}
-use lib.Seq.{ext-getD, getD-at}
+use lib.ListN.{length, getD}
 use Rattle.laws.specs.RowLaws.{row-le}
 use Rattle.laws.specs.Index.{index-div, index-mod, row-of}
 use Rattle.laws.specs.Every.{every}
 use Rattle.laws.specs.EveryLaws.{every-of}
+use Rattle.laws.specs.TabLaws.{length-tab, getD-tab, tab-is}
 use Rattle.laws.specs.RowSums.{Picture, pictureOf}
-use Rattle.laws.specs.Pictures.{tab, listOf}
-
-module _ {A : Type 0} where
-  pub length-tab : (f : ℕ → A) (n : ℕ) → length (tab f n) ≡ n
-  unfolding tab
-  length-tab f zero = refl
-  length-tab f (suc n) = length-append (tab f n) (f n ∷ []) ∙ omega (arith, length-tab f n)
-
-  pub tab-at : (f : ℕ → A) (n i : ℕ) (d : A) → i < n → getD (tab f n) i d ≡ f i
-  unfolding tab
-  tab-at f zero i d l = absurd (omega arith)
-  tab-at f (suc n) i d l =
-      let k : i ≤ n = omega arith in
-      ⊎-elim
-      (λ (e : i ≡ n). getD-at (tab f n) (f n) [] d i (length-tab f n ∙ sym e) ∙ ap f (sym e))
-      (λ (g : i < n). List·getD-append (tab f n) (f n ∷ []) d i (omega (arith, length-tab f n)) ∙ tab-at f n i d g)
-      (eq-or-lt-of-le k)
-
-  -- the only list of n elements with these
-  pub tab-is : (f : ℕ → A) (n : ℕ) (d : A) (l : List A) → length l ≡ n → ((i : ℕ) → i < n → getD l i d ≡ f i) → l ≡ tab f n
-  tab-is f n d l e g = ext-getD d l (tab f n) (e ∙ sym (length-tab f n)) (λ i k. g i (omega arith) ∙ sym (tab-at f n i d (omega arith)))
-
-  pub tab-same : (f g : ℕ → A) (n : ℕ) → ((i : ℕ) → i < n → f i ≡ g i) → tab f n ≡ tab g n
-  unfolding tab
-  tab-same f g zero e = refl
-  tab-same f g (suc n) e = rw (tab-same f g n (λ i l. e i (omega arith)), e n (omega arith)) refl
+use Rattle.laws.specs.Pictures.{listOf}
 
 -- ---- number i of a picture: its channel, row and column, and back
 module _ (w h : ℕ) where
@@ -75,7 +49,7 @@ module _ {P : Type 0} (w h : ℕ) where
   -- what stands at number i
   pub list-number : (p : Picture P) (i : ℕ) (d : P) → i < h * w * 3 → getD (listOf w h p) i d ≡ p (i % 3) (i / 3 / w) (i / 3 % w)
   unfolding listOf
-  list-number p i d l = tab-at (λ i. p (i % 3) (i / 3 / w) (i / 3 % w)) (h * w * 3) i d l
+  list-number p i d l = getD-tab (λ i. p (i % 3) (i / 3 / w) (i / 3 % w)) (h * w * 3) i d l
 
   -- the picture of a picture's list
   pub list-at : (p : Picture P) (d : P) (ch y x : ℕ) → ch < 3 → y < h → x < w → pictureOf d w (listOf w h p) ch y x ≡ p ch y x
@@ -88,7 +62,7 @@ module _ {P : Type 0} (w h : ℕ) where
   -- number by number: the only list of a picture
   pub numbers-list : (p : Picture P) (d : P) (l : List P) → length l ≡ h * w * 3 → ((i : ℕ) → i < h * w * 3 → getD l i d ≡ p (i % 3) (i / 3 / w) (i / 3 % w)) → l ≡ listOf w h p
   unfolding listOf
-  numbers-list p d l e g = tab-is (λ i. p (i % 3) (i / 3 / w) (i / 3 % w)) (h * w * 3) d l e g
+  numbers-list p d l e g = tab-is (λ i. p (i % 3) (i / 3 / w) (i / 3 % w)) (h * w * 3) l d e g
 
   -- and place by place
   pub list-is : (p : Picture P) (d : P) (l : List P) → length l ≡ h * w * 3 → ((ch y x : ℕ) → ch < 3 → y < h → x < w → pictureOf d w l ch y x ≡ p ch y x) → l ≡ listOf w h p

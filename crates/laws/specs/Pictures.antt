@@ -1,15 +1,11 @@
 -- Rules: document 01, "Picture: exactly h·w·3 f32, rows top down, channels together", over any kind of value; and a picture recoloured where a test of pixels holds.
 use mathlib.Core.Bool.{Bool, cond}
-use mathlib.Core.List.{List, [], _∷_, _++_}
+use mathlib.Core.List.{List}
 use Prim.Native.Nat.{ℕ, zero, suc, _*_, _/_, _%_}
+use Rattle.laws.specs.Tab.{tab}
 use Rattle.laws.specs.RowSums.{Picture}
 
 module _ {P : Type 0} where
-  -- f 0, f 1 and so on, n of them
-  unfoldable pub tab : (ℕ → P) → ℕ → List P
-  tab f zero = []
-  tab f (suc n) = tab f n ++ (f n ∷ [])
-
   -- a picture of w columns and h rows as a list: number i is of channel i % 3, row i / 3 / w and column i / 3 % w
   unfoldable pub listOf : ℕ → ℕ → Picture P → List P
   listOf w h p = tab (λ i. p (i % 3) (i / 3 / w) (i / 3 % w)) (h * w * 3)

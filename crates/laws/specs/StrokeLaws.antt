@@ -1,24 +1,24 @@
 -- Laws: painting by runs. A part of a list that was lent and came back; a run mixed in parts; a picture recoloured row by row. Over any kind of value.
 use mathlib.Core.Path.{_≡_, refl, sym, ap, _∙_, subst}
 use mathlib.Core.Bool.{Bool, true, false, _&&_, cond}
-use mathlib.Core.List.{List, [], _∷_, _++_, append-assoc}
+use mathlib.Core.List.{List, _++_, append-assoc}
 use mathlib.Core.Logic.{_⊎_, inl, inr, ⊎-elim}
-use Prim.Native.Nat.{ℕ, zero, suc, _+_, _-_, _*_, _/_, _%_, _≤_, _<_}
-use native.Mathlib.Nat.{mul-le-mul-right}
+use Prim.Native.Nat.{ℕ, _+_, _-_, _*_, _%_, _≤_, _<_}
 use native.Mathlib.Decide.{decLe}
 use native.Mathlib.Omega.{arith}
 use lib.Dec.{leb, ltb}
-use lib.ListN.{length, take, drop, getD, length-take, length-drop, length-append, take-append-drop, List·getD-append}
+use lib.ListN.{length, take, drop, getD, length-drop, List·getD-append}
 use lib.Seq.{ext-getD, take-at, drop-at, take-add, drop-drop, length-take-le, getD-take, getD-drop, getD-append-add}
 use borrow.Author.Tests.{lt-ltb, le-ltb, le-leb, lt-leb}
 use borrow.Rule.Slice.PartMut.{putMid, same-len-mid}
 use Rattle.laws.specs.Fill.{fill}
 use Rattle.laws.specs.Index.{index-mod}
-use Rattle.laws.specs.RowLaws.{row-le, length-part}
-use Rattle.laws.specs.RowSums.{Picture, pictureOf}
-use Rattle.laws.specs.Pictures.{tab, listOf, recoloured}
-use Rattle.laws.specs.PictureLaws.{length-tab, tab-at, length-list, list-at, list-is, number-in}
-use Rattle.laws.specs.Strokes.{runLeft, runRight, RunsWithin, inRuns, stroked}
+use Rattle.laws.specs.RowLaws.{row-le}
+use Rattle.laws.specs.TabLaws.{length-tab, getD-tab}
+use Rattle.laws.specs.RowSums.{pictureOf}
+use Rattle.laws.specs.Pictures.{listOf, recoloured}
+use Rattle.laws.specs.PictureLaws.{length-list, list-at, list-is}
+use Rattle.laws.specs.Strokes.{runLeft, runRight, inRuns, stroked}
 
 module _ {P : Type 0} where
   -- ---- a part lent as `&mut l[a..a + k]` came back as r, by its elements
@@ -67,7 +67,7 @@ module _ {P : Type 0} where
 
     pub stroked-at : (p : List P) (i : ℕ) (z : P) → i < length p → getD (stroked d mix p) i z ≡ mix (i % 3) (getD p i d)
     unfolding stroked
-    stroked-at p i z l = tab-at (λ i. mix (i % 3) (getD p i d)) (length p) i z l
+    stroked-at p i z l = getD-tab (λ i. mix (i % 3) (getD p i d)) (length p) i z l
 
     -- a part that begins with a pixel
     pub stroked-part : (p : List P) (q k : ℕ) → q * 3 + k ≤ length p → stroked d mix (take k (drop (q * 3) p)) ≡ take k (drop (q * 3) (stroked d mix p))
@@ -111,9 +111,9 @@ module _ (runs : List ℕ) (lo : ℕ) where
   other-row y x z (inr l) = rw (le-ltb z y (omega arith), le-ltb z (y + 1) (omega arith)) refl
 
   -- in a row among them: those of its run
-  pub in-run : (y x z : ℕ) → lo ≤ z → z < y → runLeft runs z ≤ x → x < runRight runs z → inRuns runs lo y x z ≡ true
+  pub on-run : (y x z : ℕ) → lo ≤ z → z < y → runLeft runs z ≤ x → x < runRight runs z → inRuns runs lo y x z ≡ true
   unfolding inRuns
-  in-run y x z a b c d = rw (le-leb lo z a, lt-ltb z y b, le-leb (runLeft runs z) x c, lt-ltb x (runRight runs z) d) refl
+  on-run y x z a b c d = rw (le-leb lo z a, lt-ltb z y b, le-leb (runLeft runs z) x c, lt-ltb x (runRight runs z) d) refl
 
   pub off-run : (y x z : ℕ) → (x < runLeft runs z) ⊎ (runRight runs z ≤ x) → inRuns runs lo y x z ≡ false
   unfolding inRuns
@@ -126,7 +126,7 @@ apart a b = elim (decLe a b) [
   | yes p ↦ elim (decLe b a) [ yes q ↦ inr (inl (omega arith)) | no q ↦ inl (omega arith) ]
 ]
 
-le-or-lt : (a b : ℕ) → (a ≤ b) ⊎ (b < a)
+pub le-or-lt : (a b : ℕ) → (a ≤ b) ⊎ (b < a)
 le-or-lt a b = elim (decLe a b) [ yes p ↦ inl p | no p ↦ inr (omega arith) ]
 
 -- ---- a picture recoloured row by row
@@ -213,7 +213,7 @@ module _ {P : Type 0} (d : P) (mix : ℕ → P → P) (w h : ℕ) (old : List P)
           on ((y * w + x) * 3 + ch) (omega arith) (omega arith)
           ∙ ap (λ (n : ℕ). mix n (getD (upTo y) ((y * w + x) * 3 + ch) d)) (index-mod 3 (y * w + x) ch c)
           ∙ ap (mix ch) (was ch y x c below m ∙ same-test (inRuns runs lo y) (λ x y. false) ch y x (not-yet runs lo y x y (omega arith)))
-          ∙ sym (same-test (inRuns runs lo (y + 1)) (λ x y. true) ch y x (in-run runs lo (y + 1) x y from (omega arith) p q)))
+          ∙ sym (same-test (inRuns runs lo (y + 1)) (λ x y. true) ch y x (on-run runs lo (y + 1) x y from (omega arith) p q)))
           (le-or-lt (runRight runs y) x))
           (λ (p : x < runLeft runs y). beside (inl p))
           (le-or-lt (runLeft runs y) x)

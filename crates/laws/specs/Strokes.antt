@@ -4,7 +4,7 @@ use mathlib.Core.List.{List}
 use Prim.Native.Nat.{ℕ, _+_, _*_, _%_, _≤_, _<_}
 use lib.Dec.{leb, ltb}
 use lib.ListN.{length, getD}
-use Rattle.laws.specs.Pictures.{tab}
+use Rattle.laws.specs.Tab.{tab}
 
 -- row y's run, left <= x < right, as it stands in a list of runs
 abbrev pub runLeft : List ℕ → ℕ → ℕ

@@ -82,6 +82,19 @@ not-not : (b : Bool) → not b ≡ false → T b
 not-not true e = tt
 not-not false e = absurd (true≢false e)
 
+-- ---- a colour that passed its test
+pub colour-within : (red green blue : Float) → badColour red green blue ≡ false → (ch : ℕ) → T (within (channelOf red green blue ch))
+unfolding badColour
+colour-within red green blue e = by
+  where
+    three : T (within red && within green && within blue)
+    three = not-not (within red && within green && within blue) e
+
+    by : (ch : ℕ) → T (within (channelOf red green blue ch))
+    by zero = and-l (within red) (within green) (and-l (within red && within green) (within blue) three)
+    by (suc zero) = and-r (within red) (within green) (and-l (within red && within green) (within blue) three)
+    by (suc (suc ch)) = and-r (within red && within green) (within blue) three
+
 -- ---- fill: pixel i is written
 module _ (w h : ℕ) (red green blue : Float) where
   pub length-filled : length (filled w h red green blue) ≡ h * w * 3
@@ -113,16 +126,7 @@ module _ (w h : ℕ) (red green blue : Float) where
 
   -- a colour within 0..1 fills a picture within 0..1
   pub filled-within : badColour red green blue ≡ false → T (allWithin (filled w h red green blue))
-  unfolding badColour
-  filled-within e = list-every w h within (plain red green blue) nan (λ ch y x c l m. by ch)
-    where
-      three : T (within red && within green && within blue)
-      three = not-not (within red && within green && within blue) e
-
-      by : (ch : ℕ) → T (within (channelOf red green blue ch))
-      by zero = and-l (within red) (within green) (and-l (within red && within green) (within blue) three)
-      by (suc zero) = and-r (within red) (within green) (and-l (within red && within green) (within blue) three)
-      by (suc (suc ch)) = and-r (within red && within green) (within blue) three
+  filled-within e = list-every w h within (plain red green blue) nan (λ ch y x c l m. colour-within red green blue e ch)
 
 -- ---- mean: pixel i is added
 pub sum-none : (target : List Float) (ch : ℕ) → nought ≡ channelSum target ch 0

@@ -1,15 +1,24 @@
-// Pictures: fill, mean and total.
+// Pictures: fill, mean, total, and shapes blended into them.
 ghost use mathlib.Core.Path.{_≡_};
+ghost use mathlib.Core.Bool.{false};
 ghost use Prim.Native.Nat.{_+_, _*_, _^_, _<_, _≤_};
 ghost use lib.Dec.{T};
 ghost use lib.IntN.{pos};
 ghost use lib.Ieee.{binary64, ofInt};
 ghost use lib.ListN.{length};
 ghost use Rattle.laws.specs.F64.{_⊘_};
+ghost use Rattle.laws.specs.Strokes.{RunsWithin};
 ghost use Rattle.float.specs.Narrowed.{narrowed};
 ghost use Rattle.float.specs.Within.{number, within, allWithin};
 ghost use Rattle.refusal.specs.Refusals.{Sized};
+ghost use Rattle.cover.specs.Cover.{badPlaces};
+ghost use Rattle.picture.specs.Painting.{BlendSays};
+ghost use Rattle.picture.specs.Strokes.{brushedPart, brushedRows, RowsWithin};
 ghost use Rattle.picture.specs.Pixels.{BadColourSays, FillSays, FilledCanvasSays, fillRefusal, MeanRgbSays, meanOf, meanRefusal, SseTotalSays, squaredDifference, totalRefusal, TotalAnySays, TotalWithinSays};
+use brush::Brush;
+use cover::Kind;
+use cover::Reach;
+use cover::rows::Rows;
 
 pub struct Colour {
     pub red: f32,
@@ -201,4 +210,54 @@ fn squared_any(t: f32, c: f32) -> f64
 {
     let d = float::widen(t - c);
     d * d
+}
+
+// ---- painting
+
+// Every covered channel becomes m * old + a * colour, m = 1 - a, in f32; all others stay. For any picture, opacity and
+// colour bits. Sizes, places and the picture's length were tested.
+pub fn blend(
+    kind: Kind,
+    opacity: f32,
+    red: f32,
+    green: f32,
+    blue: f32,
+    w: usize,
+    h: usize,
+    canvas: &mut [f32],
+)
+    requires sizes { ⌜ Sized w h ⌝ }
+    requires places { ⌜ badPlaces kind ≡ false ⌝ }
+    requires picture { ⌜ length (now canvas) ≡ h * w * 3 ⌝ }
+    ensures { λ _. ⌜ BlendSays kind opacity red green blue w h (now (canvas .entry)) (now (canvas .exit)) ⌝ }
+{
+    let mut runs = [0u16; 512];
+    cover::runs(kind, w, h, &mut runs);
+    let rows = cover::rows::reach_rows(kind, h);
+    let brush = brush::brush_of(opacity, red, green, blue);
+    blend_rows(brush, &runs, rows, w, h, canvas);
+}
+
+fn blend_rows(brush: Brush, runs: &[u16; 512], rows: Rows, w: usize, h: usize, canvas: &mut [f32])
+    requires sizes { ⌜ Sized w h ⌝ }
+    requires rows { ⌜ RowsWithin h rows ⌝ }
+    requires runs { ⌜ RunsWithin w h (now runs) ⌝ }
+    requires picture { ⌜ length (now canvas) ≡ h * w * 3 ⌝ }
+    ensures { λ _. ⌜ now (canvas .exit) ≡ brushedRows brush (now (runs .entry)) (rows .top) (rows .bottom) w h (now (canvas .entry)) ⌝ }
+{
+    for y in rows.top..rows.bottom {
+        let left = runs[y * 2] as usize;
+        let right = runs[y * 2 + 1] as usize;
+        blend_row(brush, left, right, y * w, canvas);
+    }
+}
+
+// Pixels left up to right of the row that begins with pixel `start`.
+fn blend_row(brush: Brush, left: usize, right: usize, start: usize, canvas: &mut [f32])
+    requires { ⌜ (left ≤ right) × ((start + right) * 3 ≤ length (now canvas)) ⌝ }
+    ensures { λ _. ⌜ now (canvas .exit) ≡ brushedPart brush ((start + left) * 3) ((start + right) * 3) (now (canvas .entry)) ⌝ }
+{
+    let a = (start + left) * 3;
+    let e = (start + right) * 3;
+    brush::blend_run(brush, right - left, &mut canvas[a..e]);
 }

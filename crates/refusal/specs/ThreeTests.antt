@@ -1,13 +1,13 @@
 -- Laws: an entry point with three tests, size, length and one of a larger number n: what each way through them answers, and what 0 gives.
-use mathlib.Core.Path.{_≡_, refl, sym, _∙_}
+use mathlib.Core.Path.{_≡_, sym, _∙_}
 use mathlib.Core.Bool.{Bool, true, false}
 use mathlib.Core.List.{List, [], _∷_}
 use Prim.Native.Nat.{ℕ, _<_}
 use native.Mathlib.Omega.{arith}
-use lib.Dec.{T, ltb}
+use lib.Dec.{ltb}
 use borrow.Author.Tests.{lt-ltb}
 use Rattle.refusal.specs.Refusals.{Test, lowest, sizeIf, lengthIf}
-use Rattle.refusal.specs.RefusalLaws.{above, lowest-skip, lowest-take, lowest-none}
+use Rattle.refusal.specs.RefusalLaws.{lowest-skip, lowest-take, lowest-none}
 
 module _ (size length third : Bool) (n : ℕ) (large : 2 < n) where
   abbrev last : List Test

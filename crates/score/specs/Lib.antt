@@ -5,3 +5,6 @@ pub mod LevelLaws
 pub mod Sweep
 pub mod SweepLaws
 pub mod Swept
+pub mod Scoring
+pub mod RunSums
+pub mod ScoringLaws

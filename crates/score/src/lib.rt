@@ -14,6 +14,8 @@ ghost use Rattle.score.specs.Swept.{swept};
 use sums::ShapeSums;
 
 pub mod levels;
+mod points;
+mod spans;
 
 // A shape's score: the opacity it was scored at, how many pixels it covers, the change of the squared error, its colour.
 pub struct Score {
@@ -23,6 +25,24 @@ pub struct Score {
     pub red: f32,
     pub green: f32,
     pub blue: f32,
+}
+
+// What a shape is scored at: one opacity, or the first of the lent levels, so many.
+pub enum Request {
+    Opacity(f32),
+    Levels(usize),
+}
+
+// A score, or the number of the refusal.
+pub enum Scored {
+    Done(Score),
+    Refused(u8),
+}
+
+// Sums, with the number of the refusal beside them, 0 if there is none.
+pub struct Collected {
+    pub refused: u8,
+    pub sums: ShapeSums,
 }
 
 fn error_before(tt: f64, tc: f64, cc: f64) -> f64

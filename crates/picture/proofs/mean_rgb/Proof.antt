@@ -16,7 +16,7 @@ mean-of-requires c κs =
 
 returns : tie.Need-returns
 returns c =
-    answer-done _ _ _ _ (sym (c .before .before .mean-refusal .ensures) ∙ c .before .if1 .taken) (c .mean-of .ensures)
+    answer-done _ _ _ _ (c .mean-of .ensures) (sym (c .before .before .mean-refusal .ensures) ∙ c .before .if1 .taken)
 
 returns-2 : tie.Need-returns-2
 returns-2 c = answer-refused _ _ _ _ (c .before .mean-refusal .ensures) (c .if1 .left)

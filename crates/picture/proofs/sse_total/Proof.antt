@@ -16,7 +16,7 @@ total-within-requires c κs =
 
 returns : tie.Need-returns
 returns c =
-    answer-done _ _ _ _ (sym (c .before .before .total-refusal .ensures) ∙ c .before .if1 .taken) (c .total-within .ensures)
+    answer-done _ _ _ _ (c .total-within .ensures) (sym (c .before .before .total-refusal .ensures) ∙ c .before .if1 .taken)
 
 returns-2 : tie.Need-returns-2
 returns-2 c = answer-refused _ _ _ _ (c .before .total-refusal .ensures) (c .if1 .left)

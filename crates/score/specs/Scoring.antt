@@ -1,0 +1,119 @@
+-- Rules: document 01, "A shape is scored at one given opacity or over a list of levels", by spans and by points, and what is refused.
+use mathlib.Core.Path.{_≡_}
+use mathlib.Core.Bool.{Bool, false, not, _||_, cond}
+use mathlib.Core.List.{List, [], _∷_}
+use Prim.Native.Nat.{ℕ, _+_, _*_}
+use lib.Dec.{eqb, ltb}
+use lib.ListN.{length, take, getD}
+use lib.Ieee.{Float, nan}
+use Rattle.laws.specs.PixelSums.{spanSum, pointSum}
+use Rattle.refusal.specs.Refusals.{Test, lowest, sizeIf, lengthIf, countIf, placeIf, opacityIf, badSize}
+use Rattle.refusal.specs.Lengths.{badPicture, badTable}
+use Rattle.float.specs.Within.{within, allWithin}
+use Rattle.cover.specs.declared.Kind.{Kind}
+use Rattle.cover.specs.Cover.{covered, badPlaces}
+use Rattle.sums.specs.declared.ShapeSums.{ShapeSums}
+use Rattle.sums.specs.Sums.{noSums, pixelSums, plus, minus}
+use Rattle.table.specs.Layout.{placeOf}
+use Rattle.score.specs.declared.Score.{Score}
+use Rattle.score.specs.declared.Request.{Request}
+use Rattle.score.specs.declared.Request.the-variants.{Opacity, Levels}
+use Rattle.score.specs.declared.Scored.{Scored}
+use Rattle.score.specs.declared.Scored.the-variants.{Done, Refused}
+use Rattle.score.specs.declared.Collected.{Collected}
+use Rattle.score.specs.Finalize.{finalized}
+use Rattle.score.specs.Swept.{swept}
+
+-- ---- the sums of a shape
+-- by spans: the right place minus the left, per row, from the top row down
+unfoldable pub spanSums : Kind → ℕ → ℕ → List Float → ShapeSums
+spanSums kind w h table = spanSum noSums plus minus (placeOf w table) (covered kind) w h
+
+-- the pixel whose channels begin at place i; pixel x of row y
+abbrev pub pixelFrom : List Float → List Float → ℕ → ShapeSums
+pixelFrom target canvas i =
+    pixelSums (getD target i nan) (getD target (i + 1) nan) (getD target (i + 2) nan) (getD canvas i nan) (getD canvas (i + 1) nan) (getD canvas (i + 2) nan)
+
+abbrev pub pixelAt : ℕ → List Float → List Float → ℕ → ℕ → ShapeSums
+pixelAt w target canvas y x = pixelFrom target canvas ((y * w + x) * 3)
+
+-- by points: pixel by pixel, in row order
+unfoldable pub pointSums : Kind → ℕ → ℕ → List Float → List Float → ShapeSums
+pointSums kind w h target canvas = pointSum noSums plus minus (pixelAt w target canvas) (covered kind) w h
+
+-- ---- the request
+unfoldable pub scoreAt : ShapeSums → Request → List Float → Score
+scoreAt s (Opacity a) levels = finalized s a
+scoreAt s (Levels n) levels = swept s levels n
+
+-- a level count is 1 to 64
+abbrev pub badCount : Request → Bool
+badCount (Opacity a) = false
+badCount (Levels n) = ltb n 1 || ltb 64 n
+
+-- levels at or above the count are not looked at
+abbrev pub badOpacity : Request → List Float → Bool
+badOpacity (Opacity a) levels = not (within a)
+badOpacity (Levels n) levels = not (allWithin (take n levels))
+
+-- the lent list of levels is exactly 64 long, also where a single opacity is asked
+abbrev pub badLevels : List Float → Bool
+badLevels levels = not (eqb (length levels) 64)
+
+-- ---- the refusals
+unfoldable pub spanRefusal : Kind → Request → List Float → ℕ → ℕ → List Float → ℕ
+spanRefusal kind request levels w h table =
+    lowest
+    (sizeIf (badSize w h)
+    ∷ lengthIf (badLevels levels || badTable w h (length table))
+    ∷ countIf (badCount request)
+    ∷ placeIf (badPlaces kind)
+    ∷ opacityIf (badOpacity request levels)
+    ∷ [])
+
+unfoldable pub pointRefusal : Kind → Request → List Float → ℕ → ℕ → List Float → List Float → ℕ
+pointRefusal kind request levels w h target canvas =
+    lowest
+    (sizeIf (badSize w h)
+    ∷ lengthIf (badLevels levels || (badPicture w h (length target) || badPicture w h (length canvas)))
+    ∷ countIf (badCount request)
+    ∷ placeIf (badPlaces kind)
+    ∷ opacityIf (badOpacity request levels)
+    ∷ [])
+
+unfoldable pub sweepRefusal : List Float → ℕ → ℕ
+sweepRefusal levels n =
+    lowest (lengthIf (badLevels levels) ∷ countIf (badCount (Levels n)) ∷ opacityIf (badOpacity (Levels n) levels) ∷ [])
+
+unfoldable pub spanSumsRefusal : Kind → ℕ → ℕ → List Float → ℕ
+spanSumsRefusal kind w h table = lowest (sizeIf (badSize w h) ∷ lengthIf (badTable w h (length table)) ∷ placeIf (badPlaces kind) ∷ [])
+
+unfoldable pub pointSumsRefusal : Kind → ℕ → ℕ → List Float → List Float → ℕ
+pointSumsRefusal kind w h target canvas =
+    lowest
+    (sizeIf (badSize w h) ∷ lengthIf (badPicture w h (length target) || badPicture w h (length canvas)) ∷ placeIf (badPlaces kind) ∷ [])
+
+-- ---- the answers: document 01's number, or the score; sums with the number beside them, none where it is refused
+abbrev pub answered : ℕ → Score → Scored
+answered number s = cond (eqb number 0) (Done s) (Refused number)
+
+abbrev pub collected : ℕ → ShapeSums → Collected
+collected number s = cond (eqb number 0) (record { refused = 0; sums = s }) (record { refused = number; sums = noSums })
+
+-- ---- what the calls promise; what is lent is only read
+abbrev pub AlphaSweepSays : ShapeSums → List Float → ℕ → Scored → Type 0
+AlphaSweepSays s levels n r = r ≡ answered (sweepRefusal levels n) (swept s levels n)
+
+abbrev pub CollectSpanSumsSays : Kind → ℕ → ℕ → List Float → Collected → Type 0
+CollectSpanSumsSays kind w h table r = r ≡ collected (spanSumsRefusal kind w h table) (spanSums kind w h table)
+
+abbrev pub CollectPointSumsSays : Kind → ℕ → ℕ → List Float → List Float → Collected → Type 0
+CollectPointSumsSays kind w h target canvas r = r ≡ collected (pointSumsRefusal kind w h target canvas) (pointSums kind w h target canvas)
+
+abbrev pub SpanScoreSays : Kind → Request → List Float → ℕ → ℕ → List Float → Scored → Type 0
+SpanScoreSays kind request levels w h table r =
+    r ≡ answered (spanRefusal kind request levels w h table) (scoreAt (spanSums kind w h table) request levels)
+
+abbrev pub PointScoreSays : Kind → Request → List Float → ℕ → ℕ → List Float → List Float → Scored → Type 0
+PointScoreSays kind request levels w h target canvas r =
+    r ≡ answered (pointRefusal kind request levels w h target canvas) (scoreAt (pointSums kind w h target canvas) request levels)

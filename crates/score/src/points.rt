@@ -1,0 +1,98 @@
+// Sums of a shape pixel by pixel, in row order, from the two pictures themselves.
+ghost use mathlib.Core.Path.{_≡_};
+ghost use mathlib.Core.Bool.{false};
+ghost use Prim.Native.Nat.{_+_, _-_, _*_, _≤_, _<_, _^_};
+ghost use lib.ListN.{length};
+ghost use Rattle.refusal.specs.Refusals.{Sized};
+ghost use Rattle.cover.specs.Cover.{badPlaces};
+ghost use Rattle.sums.specs.Sums.{plus};
+ghost use Rattle.score.specs.RunSums.{pixelsAdded, pointsAdded, RunsFit};
+ghost use Rattle.score.specs.Scoring.{pixelFrom, pointSums};
+use cover::Kind;
+use sums::ShapeSums;
+
+// The pixel whose channels begin at place `at`.
+fn push_pixel(target: &[f32], canvas: &[f32], at: usize, s: ShapeSums) -> ShapeSums
+    requires { ⌜ (at + 3 ≤ length (now target)) × (at + 3 ≤ length (now canvas)) × (s .count + 1 < 2 ^ 32) ⌝ }
+    ensures { λ r. ⌜ r ≡ plus s (pixelFrom (now (target .entry)) (now (canvas .entry)) at) ⌝ }
+{
+    s.push(
+        target[at],
+        target[at + 1],
+        target[at + 2],
+        canvas[at],
+        canvas[at + 1],
+        canvas[at + 2],
+    )
+}
+
+// Pixels left <= x < right of row y.
+fn push_row(
+    target: &[f32],
+    canvas: &[f32],
+    w: usize,
+    y: usize,
+    left: usize,
+    right: usize,
+    sums: ShapeSums,
+) -> ShapeSums
+    requires sizes { ⌜ (w ≤ 256) × (y < 256) × (left ≤ right) × (right ≤ w) × (sums .count + (right - left) < 2 ^ 31) ⌝ }
+    requires lent { ⌜ (y * w * 3 + w * 3 ≤ length (now target)) × (y * w * 3 + w * 3 ≤ length (now canvas)) ⌝ }
+    ensures { λ r. ⌜ r ≡ pixelsAdded w (now (target .entry)) (now (canvas .entry)) y left (right - left) sums ⌝ }
+{
+    let mut s = sums;
+    let mut x = left;
+    while x < right {
+        s = push_pixel(target, canvas, (y * w + x) * 3, s);
+        x += 1;
+    }
+    s
+}
+
+// The runs of rows top to bottom, from the top row down.
+fn push_rows(
+    runs: &[u16; 512],
+    top: usize,
+    bottom: usize,
+    target: &[f32],
+    canvas: &[f32],
+    w: usize,
+) -> ShapeSums
+    requires sizes { ⌜ (w ≤ 256) × (top ≤ bottom) × (bottom ≤ 256) × (bottom * (w * 3) ≤ length (now target)) × (bottom * (w * 3) ≤ length (now canvas)) ⌝ }
+    requires runs { ⌜ RunsFit (now runs) w top bottom ⌝ }
+    ensures { λ r. ⌜ r ≡ pointsAdded w (now (target .entry)) (now (canvas .entry)) (now (runs .entry)) top (bottom - top) ⌝ }
+{
+    let mut s = ShapeSums::new();
+    let mut y = top;
+    while y < bottom {
+        let left = runs[y * 2] as usize;
+        let right = runs[y * 2 + 1] as usize;
+        s = push_row(target, canvas, w, y, left, right, s);
+        y += 1;
+    }
+    s
+}
+
+// The sums of a shape whose sizes and places were tested, over the rows of its reach.
+pub(crate) fn point_sums(
+    kind: Kind,
+    w: usize,
+    h: usize,
+    target: &[f32],
+    canvas: &[f32],
+) -> ShapeSums
+    requires sizes { ⌜ Sized w h ⌝ }
+    requires places { ⌜ badPlaces kind ≡ false ⌝ }
+    requires lent { ⌜ (length (now target) ≡ h * w * 3) × (length (now canvas) ≡ h * w * 3) ⌝ }
+    ensures { λ r. ⌜ r ≡ pointSums kind w h (now (target .entry)) (now (canvas .entry)) ⌝ }
+{
+    let rows = cover::rows::reach_rows(kind, h);
+    let top = rows.top;
+    let bottom = rows.bottom;
+    if bottom <= top {
+        return ShapeSums::new();
+    }
+    let mut runs = [0u16; 512];
+    cover::runs(kind, w, h, &mut runs);
+    push_rows(&runs, top, bottom, target, canvas, w)
+}

@@ -1,0 +1,57 @@
+// Sums of a shape from a table of prefix sums: two places for each row that it covers.
+ghost use mathlib.Core.Path.{_≡_};
+ghost use mathlib.Core.Bool.{false};
+ghost use Prim.Native.Nat.{_+_, _-_, _*_, _≤_, _<_, _^_};
+ghost use lib.ListN.{length};
+ghost use Rattle.refusal.specs.Refusals.{Sized};
+ghost use Rattle.cover.specs.Cover.{badPlaces};
+ghost use Rattle.score.specs.RunSums.{runAdded, runsAdded, RunsFit};
+ghost use Rattle.score.specs.Scoring.{spanSums};
+use cover::Kind;
+use sums::ShapeSums;
+
+// A row's run, if it has a pixel.
+fn add_row(table: &[f64], w: usize, y: usize, left: usize, right: usize, s: ShapeSums) -> ShapeSums
+    requires { ⌜ (w ≤ 256) × (left ≤ right) × (right ≤ w) × (y * ((w + 1) * 15) + (w + 1) * 15 ≤ length (now table)) × (s .count + (right - left) < 2 ^ 32) ⌝ }
+    ensures { λ r. ⌜ r ≡ runAdded w (now (table .entry)) y left right s ⌝ }
+{
+    if left < right {
+        return table::add_span(table, w, y, left, right, s);
+    }
+    s
+}
+
+// The runs of rows top to bottom, from the top row down.
+fn add_rows(runs: &[u16; 512], top: usize, bottom: usize, table: &[f64], w: usize) -> ShapeSums
+    requires sizes { ⌜ (w ≤ 256) × (top ≤ bottom) × (bottom ≤ 256) × (bottom * ((w + 1) * 15) ≤ length (now table)) ⌝ }
+    requires runs { ⌜ RunsFit (now runs) w top bottom ⌝ }
+    ensures { λ r. ⌜ r ≡ runsAdded w (now (table .entry)) (now (runs .entry)) top (bottom - top) ⌝ }
+{
+    let mut s = ShapeSums::new();
+    let mut y = top;
+    while y < bottom {
+        let left = runs[y * 2] as usize;
+        let right = runs[y * 2 + 1] as usize;
+        s = add_row(table, w, y, left, right, s);
+        y += 1;
+    }
+    s
+}
+
+// The sums of a shape whose sizes and places were tested, over the rows of its reach.
+pub(crate) fn span_sums(kind: Kind, w: usize, h: usize, table: &[f64]) -> ShapeSums
+    requires sizes { ⌜ Sized w h ⌝ }
+    requires places { ⌜ badPlaces kind ≡ false ⌝ }
+    requires lent { ⌜ length (now table) ≡ h * (w + 1) * 15 ⌝ }
+    ensures { λ r. ⌜ r ≡ spanSums kind w h (now (table .entry)) ⌝ }
+{
+    let rows = cover::rows::reach_rows(kind, h);
+    let top = rows.top;
+    let bottom = rows.bottom;
+    if bottom <= top {
+        return ShapeSums::new();
+    }
+    let mut runs = [0u16; 512];
+    cover::runs(kind, w, h, &mut runs);
+    add_rows(&runs, top, bottom, table, w)
+}
