@@ -7,12 +7,12 @@ use Prim.Native.Nat.{ℕ}
 use lib.Dec.{eqb}
 use lib.Ieee.{Float}
 use lib.ListN.{length}
-use Rattle.refine.specs.declared.Shape.{Shape}
-use Rattle.refine.specs.declared.Shapes.{Shapes}
-use Rattle.refine.specs.declared.Candidates.{Candidates}
+use Rattle.shapes.specs.declared.Shape.{Shape}
+use Rattle.shapes.specs.declared.Shapes.{Shapes}
+use Rattle.shapes.specs.declared.Candidates.{Candidates}
 use Rattle.refine.specs.declared.Refined.{Refined}
-use Rattle.refine.specs.Lists.{listed}
-use Rattle.refine.specs.Ranges.{refusalOf}
+use Rattle.shapes.specs.Lists.{listed}
+use Rattle.refine.specs.Tests.{refusalOf}
 use Rattle.refine.specs.Refinement.{Scene, Progress, drawn, refined}
 use Rattle.refine.specs.Scenes.{sceneOf}
 use Rattle.refine.specs.Answers.{Told, told, doneWith, refusedWith, drawnOr, RefineShapesSays}

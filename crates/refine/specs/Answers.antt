@@ -6,12 +6,12 @@ use Prim.Native.Nat.{ℕ}
 use lib.Dec.{eqb}
 use lib.Ieee.{Float}
 use lib.ListN.{length}
-use Rattle.refine.specs.declared.Shape.{Shape}
-use Rattle.refine.specs.declared.Shapes.{Shapes}
-use Rattle.refine.specs.declared.Candidates.{Candidates}
+use Rattle.shapes.specs.declared.Shape.{Shape}
+use Rattle.shapes.specs.declared.Shapes.{Shapes}
+use Rattle.shapes.specs.declared.Candidates.{Candidates}
 use Rattle.refine.specs.declared.Refined.{Refined}
-use Rattle.refine.specs.Lists.{listed}
-use Rattle.refine.specs.Ranges.{refusalOf}
+use Rattle.shapes.specs.Lists.{listed}
+use Rattle.refine.specs.Tests.{refusalOf}
 use Rattle.refine.specs.Refinement.{Scene, Progress, drawn, refined}
 use Rattle.refine.specs.Scenes.{sceneOf}
 
@@ -40,28 +40,28 @@ doneWith a = record { refusal = 0; count = length (a .list); list = a .list; pas
 
 -- refused: the list as handed in, all else zero
 abbrev pub refusedWith : ℕ → Shapes → Told
-refusedWith n shapes = record { refusal = n; count = shapes .count; list = listed shapes; passes = 0; trials = 0; acceptances = 0 }
+refusedWith n l = record { refusal = n; count = l .count; list = listed l; passes = 0; trials = 0; acceptances = 0 }
 
 -- in both work pictures, before as it was lent: the final list drawn over the background, unless the number n is given
 abbrev pub drawnOr : ℕ → Scene Shape (List Float) → Progress Shape → List Float → List Float
 drawnOr n g a before = cond (eqb n 0) (drawn g (a .list)) before
 
--- w, h, the background's colour, the target, the shapes, the candidates, the passes and the work pictures as lent; the answer, and the work pictures as they are left
-pub record RefineShapesSays (w h : ℕ) (red green blue : Float) (target : List Float) (shapes : Shapes) (candidates : Candidates) (passes : ℕ) (first second : List Float) (r : Refined) (first′ second′ : List Float) : Type 0 where
+-- w, h, the background's colour, the target, the list, the candidates, the passes and the work pictures as lent; the answer, and the work pictures as they are left
+pub record RefineShapesSays (w h : ℕ) (red green blue : Float) (target : List Float) (list : Shapes) (candidates : Candidates) (passes : ℕ) (first second : List Float) (r : Refined) (first′ second′ : List Float) : Type 0 where
   pub answer :
       told r
-      ≡ cond (eqb (refusalOf w h red green blue target shapes candidates passes (length first) (length second)) 0)
-      (doneWith (refined (sceneOf w h red green blue target candidates) passes (listed shapes)))
-      (refusedWith (refusalOf w h red green blue target shapes candidates passes (length first) (length second)) shapes)
+      ≡ cond (eqb (refusalOf w h red green blue target list candidates passes (length first) (length second)) 0)
+      (doneWith (refined (sceneOf w h red green blue target candidates) passes (listed list)))
+      (refusedWith (refusalOf w h red green blue target list candidates passes (length first) (length second)) list)
   pub left-first :
       first′
-      ≡ drawnOr (refusalOf w h red green blue target shapes candidates passes (length first) (length second))
+      ≡ drawnOr (refusalOf w h red green blue target list candidates passes (length first) (length second))
       (sceneOf w h red green blue target candidates)
-      (refined (sceneOf w h red green blue target candidates) passes (listed shapes))
+      (refined (sceneOf w h red green blue target candidates) passes (listed list))
       first
   pub left-second :
       second′
-      ≡ drawnOr (refusalOf w h red green blue target shapes candidates passes (length first) (length second))
+      ≡ drawnOr (refusalOf w h red green blue target list candidates passes (length first) (length second))
       (sceneOf w h red green blue target candidates)
-      (refined (sceneOf w h red green blue target candidates) passes (listed shapes))
+      (refined (sceneOf w h red green blue target candidates) passes (listed list))
       second

@@ -1,13 +1,13 @@
+-- What a reader must believe.
 pub mod Refinement
-pub mod Lists
-pub mod Blank
-pub mod Ranges
 pub mod Scenes
+pub mod Tests
 pub mod Answers
+-- The forms in which it is proved.
+pub mod Courses
+-- What follows.
 pub mod RefinementLaws
 pub mod PartLaws
 pub mod CourseLaws
-pub mod RangeLaws
-pub mod WithinLaws
-pub mod ChainLaws
+pub mod TestLaws
 pub mod AnswerLaws

@@ -2,7 +2,7 @@
 use lib.IntN.{pos}
 use lib.Ieee.{nan}
 use Rattle.cover.specs.declared.Kind.the-variants.{Circle}
-use Rattle.refine.specs.declared.Shape.{Shape}
+use Rattle.shapes.specs.declared.Shape.{Shape}
 
 abbrev pub blank : Shape
 blank = record { kind = Circle (pos 0) (pos 0) (pos 0); opacity = nan; red = nan; green = nan; blue = nan }

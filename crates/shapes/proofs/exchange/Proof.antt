@@ -3,9 +3,9 @@ use native.Mathlib.Omega.{arith}
 use mathlib.Core.Path.{_≡_, ap, _∙_}
 use mathlib.Core.List.{List, [], _∷_, _++_}
 use borrow.Author.Needs.{needs}
-use Rattle.refine.specs.declared.Shape.{Shape}
-use Rattle.refine.proofs.exchange.Statement.{statement}
-use Rattle.refine.proofs.exchange.Tie as tie
+use Rattle.shapes.specs.declared.Shape.{Shape}
+use Rattle.shapes.proofs.exchange.Statement.{statement}
+use Rattle.shapes.proofs.exchange.Tie as tie
 
 remove-requires : tie.Need-remove-requires
 remove-requires c κs = search needs

@@ -4,8 +4,8 @@ use mathlib.Core.Path.{_≡_}
 use lib.ListN.{length, length-map, length-set}
 use borrow.Author.Needs.{needs}
 use Rattle.laws.specs.WithoutLaws.{pushed}
-use Rattle.refine.proofs.push.Statement.{statement}
-use Rattle.refine.proofs.push.Tie as tie
+use Rattle.shapes.proofs.push.Statement.{statement}
+use Rattle.shapes.proofs.push.Tie as tie
 
 mul-x : tie.Need-mul-x
 mul-x c = search needs

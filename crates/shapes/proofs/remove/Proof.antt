@@ -5,12 +5,12 @@ use mathlib.Core.Path.{_≡_, sym, subst, ap, _∙_}
 use lib.ListN.{length, take, drop, length-map, length-drop, set, getD}
 use lib.Seq.{length-paste}
 use mathlib.Core.List.{List}
-use Rattle.refine.specs.Blank.{blank}
-use Rattle.refine.specs.declared.Shape.{Shape}
+use Rattle.shapes.specs.Blank.{blank}
+use Rattle.shapes.specs.declared.Shape.{Shape}
 use Rattle.laws.specs.WithoutLaws.{shifted, shifted-none, shifted-more, shifted-all}
 use borrow.Author.Needs.{needs}
-use Rattle.refine.proofs.remove.Statement.{statement}
-use Rattle.refine.proofs.remove.Tie as tie
+use Rattle.shapes.proofs.remove.Statement.{statement}
+use Rattle.shapes.proofs.remove.Tie as tie
 
 abbrev Inv-loop : tie.InvT-loop
 Inv-loop j s₀ n i₀ s i = (i ≤ n) × (j < i) × (n ≤ 64) × (s .items ≡ shifted (s₀ .items) j i)
