@@ -28,6 +28,10 @@ pub mod Index
 pub mod Fill
 pub mod Every
 pub mod EveryLaws
+pub mod Without
+pub mod WithoutLaws
+pub mod InOrder
+pub mod InOrderLaws
 -- Lists of calls.
 pub mod Calls
 pub mod CallLaws

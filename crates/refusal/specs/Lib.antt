@@ -3,3 +3,4 @@ pub mod RefusalLaws
 pub mod Lengths
 pub mod LengthLaws
 pub mod ThreeTests
+pub mod ChainLaws
