@@ -24,7 +24,7 @@ pub fn signed32(n: i32) {
     unsigned(whole::abs_i32(n) as u64);
 }
 
-// The digits of n, at least `width` of them, capitals.
+// The digits of n, at least `width` of them, small letters.
 pub fn hex(n: u64, width: usize) {
     io::print_hex(STDOUT_FILENO, n, width);
 }

@@ -13,13 +13,9 @@ use native.Mathlib.Omega.{arith}
 use borrow.Author.Needs.{needs}
 use Rattle.capi.proofs.end_of.Statement.{statement}
 use Rattle.capi.proofs.end_of.Tie as tie
-use Rattle.capi.proofs.end_of.Reads as reads
-use Rattle.capi.proofs.end_of.Lts as lts
-use Rattle.capi.proofs.minus.Reads as minus-reads
-use Rattle.cover.proofs.row_ends.Reads as row-ends-reads
 
 -- what `row_ends` promises of the row that was asked for
-told : (q : lts.After-row-ends (row-ends-reads.Asked, row-ends-reads.Learnt, minus-reads.Asked, minus-reads.Learnt) reads.Pre reads.Post)
+told : (q : tie.After-row-ends)
     → RowEndsSays (q .before .args .kind) (q .before .args .w) (q .before .args .h) (q .before .args .y) (q .row-ends .result)
 told q = simp (toZ-ofZ, q .before .fits .y) at (q .row-ends .ensures)
 
