@@ -28,6 +28,10 @@ pub mod Index
 pub mod Fill
 pub mod Every
 pub mod EveryLaws
+pub mod Without
+pub mod WithoutLaws
+pub mod InOrder
+pub mod InOrderLaws
 -- Lists of calls.
 pub mod Calls
 pub mod CallLaws
@@ -41,3 +45,9 @@ pub mod RowFold
 pub mod RowFoldLaws
 pub mod RowSums
 pub mod RowSumLaws
+-- Pictures as lists.
+pub mod F32
+pub mod Pictures
+pub mod PictureLaws
+pub mod Strokes
+pub mod StrokeLaws

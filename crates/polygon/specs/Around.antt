@@ -1,20 +1,18 @@
 -- Laws: the tests of a polygon by place: the edge at place i goes from corner i to the next; and a row by them.
 use mathlib.Core.Path.{_≡_, refl, sym, _∙_, ap, ap₂, subst}
-use mathlib.Core.Bool.{Bool, true, false, cond}
+use mathlib.Core.Bool.{Bool, true}
 use mathlib.Core.List.{List, [], _∷_, _++_}
-use mathlib.Core.Logic.{_⊎_, inl, inr, ⊎-elim}
+use mathlib.Core.Logic.{inl, inr}
 use Prim.Native.Nat.{ℕ, zero, suc, _+_, _≤_, _<_}
 use native.Mathlib.Omega.{arith}
 use native.Mathlib.Decide.{decLe, ℕ-discrete}
-use native.Mathlib.Numerals.{add-one}
 use lib.ListN.{length, getD, List·getD-append}
 use lib.IntN.{ℤ, pos}
-use lib.Signed.{_≤ℤ_}
-use Rattle.laws.specs.Bools.{and-left, and-right, and-both}
+use Rattle.laws.specs.Bools.{and-right, and-both}
 use Rattle.laws.specs.Runs.{allHold}
 use Rattle.laws.specs.EndsLaws.{RunOf, run-ends}
 use Rattle.laws.specs.Holds.{hold-at, all-hold}
-use Rattle.polygon.specs.Polygon.{Point, at, side, area2, areaTest, edgeTest, edgesTo, round, polygonTests, polygon, corners, polygonPixel}
+use Rattle.polygon.specs.Polygon.{Point, at, area2, areaTest, edgeTest, edgesTo, round, polygonTests, polygon, corners, polygonPixel}
 use Rattle.polygon.specs.Steps.{signOf, nextOf, Kept, Inner, Signed, RowRun}
 use Rattle.polygon.specs.Sides.{edge-inner, inner-edge}
 use Rattle.polygon.specs.StepLaws.{next-in, next-out}

@@ -1,10 +1,10 @@
 -- Laws: a covered point lies within the rows and the columns of the corners, for any number of corners and both windings: the Rust's boxes leave out nothing.
 -- Seen from the point, an edge's side is the cross product of two corner vectors. If the point lay beyond all corners, their slopes would rise
 -- all the way round, so all were equal, and there were no area.
-use mathlib.Core.Path.{_≡_, refl, sym, _∙_, ap, subst}
+use mathlib.Core.Path.{_≡_, refl, sym, ap, subst}
 use mathlib.Core.Bool.{Bool, true, false, _||_, cond}
 use mathlib.Core.List.{List, [], _∷_, map}
-use mathlib.Core.Logic.{_⊎_, inl, inr, ⊎-elim}
+use mathlib.Core.Logic.{_⊎_, ⊎-elim}
 use Prim.Native.Nat.{ℕ}
 use native.Mathlib.Omega.{arith}
 use lib.ListN.{length}
@@ -14,11 +14,11 @@ use Rattle.laws.specs.Parts.{zord, of-, of*}
 use Rattle.laws.specs.Fit.{lt-true, le-true, le-false}
 use Rattle.laws.specs.Order.{≤ℤ-antisym, ≤ℤ-or-<ℤ, *ℤ-cancel≤, *ℤ-nonneg, +ℤ-nonneg, <ℤ→≤ℤ, by-sub}
 use Rattle.laws.specs.Poly.{Ex, x, c, _⊞_, _⊟_, _⊠_, ring}
-use Rattle.laws.specs.Bools.{and-left, and-right, or-either, true-or-false}
+use Rattle.laws.specs.Bools.{and-left, and-right}
 use Rattle.laws.specs.Fit.{no-both}
 use Rattle.laws.specs.Runs.{allHold}
 use Rattle.whole.specs.Whole.{lesser, greater}
-use Rattle.polygon.specs.Polygon.{Point, at, side, area2, areaTest, edgeTest, edgesTo, round, polygonTests, polygon, corners, leastOf, greatestOf, InBox}
+use Rattle.polygon.specs.Polygon.{Point, at, side, areaTest, edgeTest, edgesTo, polygonTests, polygon, corners, leastOf, greatestOf, InBox}
 use Rattle.polygon.specs.Steps.{signOf}
 use Rattle.polygon.specs.Sides.{edge-inner}
 

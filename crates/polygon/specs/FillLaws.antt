@@ -1,22 +1,23 @@
 -- Laws: the rows that fill_runs leaves out have no covered column; the rows that it works out are written in order.
-use mathlib.Core.Path.{_≡_, refl, sym, _∙_, ap}
+use mathlib.Core.Path.{_≡_, refl}
 use mathlib.Core.Bool.{Bool, true, false, _||_}
 use mathlib.Core.List.{List, [], _∷_}
-use mathlib.Core.Logic.{_⊎_, inl, inr, ⊎-elim}
+use mathlib.Core.Logic.{_⊎_, inl, inr}
 use Prim.Native.Nat.{ℕ, _+_, _*_, _≤_, _<_}
 use native.Mathlib.Omega.{arith}
 use native.Mathlib.Decide.{decLe}
-use lib.ListN.{length, set, replicate}
+use lib.ListN.{length, set}
 use lib.IntN.{ℤ, pos, _+ℤ_}
-use lib.Signed.{_≤ℤ_, _<ℤ_, leZ, ltZ}
+use lib.Signed.{_≤ℤ_, _<ℤ_, ltZ}
 use Rattle.laws.specs.Parts.{zord, of+}
 use Rattle.laws.specs.Order.{≤ℤ-or-<ℤ, ≤ℤ-antisym}
 use Rattle.laws.specs.Fit.{lt-false}
 use Rattle.laws.specs.Runs.{rowRun, runsOf}
+use Rattle.laws.specs.Blank.{blank}
 use Rattle.laws.specs.RunLaws.{row-ends, row-past, row-none, ends-within, runsBefore, runs-start, runs-more, runs-end, runs-blank}
 use Rattle.whole.specs.Whole.{ClampI64Says}
 use Rattle.whole.specs.WholeLaws.{clamp-is}
-use Rattle.polygon.specs.Polygon.{Point, at, area2, areaTest, polygonTests, polygon, corners, polygonPixel, leastOf, greatestOf, FillRunsSays}
+use Rattle.polygon.specs.Polygon.{at, area2, areaTest, polygonTests, polygon, corners, polygonPixel, leastOf, greatestOf, FillRunsSays}
 use Rattle.polygon.specs.Steps.{RowRun}
 use Rattle.polygon.specs.Box.{polygon-in-box}
 
@@ -30,7 +31,7 @@ some-area area h = by (ltZ (pos 0) area) (ltZ area (pos 0)) refl refl
     by false false e f = absurd (h (≤ℤ-antisym (lt-false (pos 0) area e) (lt-false area (pos 0) f)))
 
 -- no area, no pixel
-pub no-area-none : (xs ys : List ℤ) (w h : ℕ) → area2 (corners xs ys) ≡ pos 0 → FillRunsSays xs ys w h (replicate 512 0)
+pub no-area-none : (xs ys : List ℤ) (w h : ℕ) → area2 (corners xs ys) ≡ pos 0 → FillRunsSays xs ys w h blank
 unfolding polygon polygonTests
 no-area-none xs ys w h e = runs-blank (polygonPixel (corners xs ys)) w h (λ z l. row-none (polygonPixel (corners xs ys)) w h z (λ x k. none x z))
   where
@@ -53,7 +54,7 @@ module _ (xs ys : List ℤ) (same : length ys ≡ length xs) (w h : ℕ) where
   row-below y l = row-none covers w h y (λ x k. not-true (covers x y) (λ t. let b = polygon-in-box xs ys (at (pos x) (pos y)) same t .bottom in omega (arith, zord)))
 
   -- the rows before the first corner's, and those past the last one's
-  pub fill-start : (first : ℕ) → h ≤ 256 → ClampI64Says (leastOf ys) h first → (first ≤ h) × (replicate 512 0 ≡ runsBefore covers w h first)
+  pub fill-start : (first : ℕ) → h ≤ 256 → ClampI64Says (leastOf ys) h first → (first ≤ h) × (blank ≡ runsBefore covers w h first)
   fill-start first l e =
       let n = clamp-is (leastOf ys) h first e in
       (n .0, runs-start covers w h first (omega (arith, n .0)) (λ z k. row-above z (before z k (≤ℤ-or-<ℤ (leastOf ys) (pos z)))))

@@ -1,9 +1,9 @@
 -- Rules: document 01, "Which pixels a shape covers", triangle and quad: over a list of corners round a shape, of any length.
 use mathlib.Core.Path.{_≡_}
-use mathlib.Core.Bool.{Bool, true, false, _||_, cond}
+use mathlib.Core.Bool.{Bool, _||_, cond}
 use mathlib.Core.List.{List, [], _∷_}
 use Prim.Native.Nat.{ℕ, _≤_}
-use lib.ListN.{length, getD, replicate}
+use lib.ListN.{length, getD}
 use lib.IntN.{ℤ, pos, _-ℤ_, _*ℤ_}
 use lib.Signed.{_≤ℤ_, leZ, ltZ}
 use Rattle.laws.specs.Bound.{Bounded}
@@ -89,10 +89,6 @@ pub record InRange (xs ys : List ℤ) : Type 0 where
   pub three : 3 ≤ length xs
   pub x : (i : ℕ) → Bounded 8191 (getD xs i (pos 0))
   pub y : (i : ℕ) → Bounded 8191 (getD ys i (pos 0))
-
--- no run is written yet
-abbrev pub Blank : List ℕ → Type 0
-Blank out = out ≡ replicate 512 0
 
 -- what is lent ends as the runs of the covered pixels, all 256 rows
 abbrev pub FillRunsSays : List ℤ → List ℤ → ℕ → ℕ → List ℕ → Type 0

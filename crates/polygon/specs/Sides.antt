@@ -1,22 +1,22 @@
 -- Laws: an edge's test as one order, for both windings; as a line along a row; and the tests of a polygon taken apart.
-use mathlib.Core.Path.{_≡_, refl, sym, _∙_, ap, subst}
+use mathlib.Core.Path.{_≡_, sym, _∙_, ap, subst}
 use mathlib.Core.Bool.{Bool, true, false, cond}
 use mathlib.Core.List.{List, [], _∷_}
-use mathlib.Core.Logic.{_⊎_, inl, inr, ⊎-elim}
+use mathlib.Core.Logic.{_⊎_, ⊎-elim}
 use Prim.Native.Nat.{ℕ, _≤_, _<_}
 use native.Mathlib.Omega.{arith}
 use lib.IntN.{ℤ, pos, negsuc, _+ℤ_, _-ℤ_, _*ℤ_}
 use lib.Signed.{_≤ℤ_, _<ℤ_, leZ, ltZ}
-use Rattle.laws.specs.Parts.{zord, of-, of*}
-use Rattle.laws.specs.Fit.{le-true, lt-true}
+use Rattle.laws.specs.Parts.{zord, of*}
+use Rattle.laws.specs.Fit.{le-true}
 use Rattle.laws.specs.Order.{<ℤ→≤ℤ, ≤ℤ-or-<ℤ, *ℤ-mono, *ℤ-anti}
 use Rattle.laws.specs.Rep.{v, k, _⊕_, _⊗_, rep-le, le-rep}
-use Rattle.laws.specs.Poly.{Ex, x, c, _⊞_, _⊟_, _⊠_, ring}
-use Rattle.laws.specs.Bools.{is-true, same-test, and-left, and-right, and-both, or-either}
+use Rattle.laws.specs.Poly.{x, c, _⊞_, _⊟_, _⊠_, ring}
+use Rattle.laws.specs.Bools.{is-true, same-test}
 use Rattle.laws.specs.Runs.{allHold}
 use Rattle.laws.specs.EndsLaws.{Convex}
 use Rattle.laws.specs.Holds.{and-convex, const-convex}
-use Rattle.polygon.specs.Polygon.{Point, at, side, area2, areaTest, edgeTest, edgesTo, round, polygonTests, polygon}
+use Rattle.polygon.specs.Polygon.{Point, at, side, area2, areaTest, edgeTest, edgesTo, polygonTests, polygon}
 use Rattle.polygon.specs.Steps.{signOf}
 
 -- ---- an edge's test is one order

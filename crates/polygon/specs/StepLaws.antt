@@ -2,12 +2,11 @@
 use mathlib.Core.Path.{_≡_, refl, sym, _∙_, ap, subst}
 use mathlib.Core.Bool.{Bool, true, false, cond}
 use mathlib.Core.List.{List, [], _∷_}
-use mathlib.Core.Logic.{_⊎_, inl, inr, ⊎-elim}
-use Prim.Native.Nat.{ℕ, zero, suc, _+_, _≤_, _<_, max}
+use mathlib.Core.Logic.{_⊎_, inl, inr}
+use Prim.Native.Nat.{ℕ, suc, _+_, _≤_, _<_, max}
 use native.Mathlib.Omega.{arith}
 use native.Mathlib.Decide.{decLe}
 use borrow.Author.Tests.{lt-ltb, le-ltb}
-use lib.Dec.{ltb}
 use native.Mathlib.Numerals.{add-one}
 use lib.ListN.{length, getD, drop, length-drop, drop-of-length-le}
 use lib.Seq.{drop-cons}
@@ -19,8 +18,8 @@ use Rattle.laws.specs.Bound.{Bounded}
 use Rattle.laws.specs.Bounds.{arg, ldw, weq, wfloor}
 use Rattle.laws.specs.Fit.{no-both}
 use Rattle.laws.specs.Quotient.{floorZ}
-use Rattle.laws.specs.Parts.{zord, of+, of-, of*, le←, le→, lt→}
-use Rattle.laws.specs.Rep.{v, k, _⊕_, _⊖_, _⊗_, rep-le, rep-lt, le-rep, lt-rep}
+use Rattle.laws.specs.Parts.{zord, of+, of-}
+use Rattle.laws.specs.Rep.{v, k, _⊕_, _⊖_, _⊗_, rep-le, le-rep, lt-rep}
 use Rattle.laws.specs.Order.{*ℤ-mono, *ℤ-anti, <ℤ→≤ℤ, ≤ℤ-or-<ℤ, ≤ℤ-antisym}
 use Rattle.whole.specs.Whole.{Largest, Least, lesser, greater, ClampI64Says}
 use Rattle.whole.specs.WholeLaws.{clamp-is, floor-largest}

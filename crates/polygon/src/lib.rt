@@ -1,9 +1,10 @@
 // The runs of a polygon's rows: document 01's triangles and quads, once over the number of corners.
-// Each row is the intersection of its edges' half planes, as in integral.rs.
+// A row is the intersection of its edges' half planes, as in integral.rs.
 ghost use mathlib.Core.Path.{_≡_};
 ghost use Prim.Native.Nat.{_<_, _≤_};
 ghost use lib.IntN.{pos, _-ℤ_};
 ghost use lib.Signed.{_<ℤ_};
+ghost use Rattle.laws.specs.Blank.{Blank};
 ghost use Rattle.laws.specs.Bound.{Bounded};
 ghost use Rattle.refusal.specs.Refusals.{Sized};
 ghost use Rattle.polygon.specs.Polygon.{
@@ -12,7 +13,6 @@ ghost use Rattle.polygon.specs.Polygon.{
   area2,
   corners,
   InRange,
-  Blank,
   ExtentOfSays,
   FillRunsSays,
 };
@@ -34,19 +34,20 @@ struct Run {
     right: usize,
 }
 
-// The least and the greatest of a list: the first and the last row of its corners.
+// The least and the greatest of a list, as the first and the last row of its corners.
 pub struct Extent {
     pub least: i32,
     pub greatest: i32,
 }
 
+// Widened first, so it cannot wrap.
 fn diff(a: i32, b: i32) -> i64
     ensures { λ r. ⌜ r ≡ a -ℤ b ⌝ }
 {
     a as i64 - b as i64
 }
 
-// Above 0 on one side of the edge from i to j, below 0 on the other.
+// Above 0 on one side of the edge from i to j, below 0 on the other, 0 on its line.
 fn side(xi: i32, yi: i32, xj: i32, yj: i32, x: i32, y: i32) -> i64
     requires from { ⌜ Placed (at xi yi) ⌝ }
     requires to { ⌜ Placed (at xj yj) ⌝ }
@@ -56,7 +57,7 @@ fn side(xi: i32, yi: i32, xj: i32, yj: i32, x: i32, y: i32) -> i64
     diff(xj, xi) * diff(y, yi) - diff(yj, yi) * diff(x, xi)
 }
 
-// Wide enough not to wrap.
+// From the first three corners, also for a quad.
 fn area2(xs: &[i32], ys: &[i32]) -> i64
     requires { ⌜ InRange (now xs) (now ys) ⌝ }
     ensures { λ r. ⌜ r ≡ area2 (corners (now (xs .entry)) (now (ys .entry))) ⌝ }
@@ -64,6 +65,7 @@ fn area2(xs: &[i32], ys: &[i32]) -> i64
     side(xs[0], ys[0], xs[1], ys[1], xs[2], ys[2])
 }
 
+// What turns an edge's side so that it is not negative on the inner side.
 fn sign_of(area: i64) -> i64
     ensures { λ r. ⌜ r ≡ signOf area ⌝ }
 {
@@ -73,6 +75,7 @@ fn sign_of(area: i64) -> i64
     -1
 }
 
+// From the end of the list to its front; of no number, 0 and 0.
 pub fn extent_of(zs: &[i32]) -> Extent
     ensures { λ r. ⌜ ExtentOfSays (now (zs .entry)) (r .least) (r .greatest) ⌝ }
 {
@@ -118,32 +121,33 @@ fn rounded(n: i64, d: i64, up: bool) -> i64
     whole::div_floor_i64(n, d)
 }
 
-// Of the columns lo up to hi, those at which a * x + c is at or above 0.
+// Of the columns lo up to hi, those at which a * x + c is not negative.
+// No division where the answer is all of them or none.
 fn half_line(a: i64, c: i64, lo: usize, hi: usize) -> Run
     requires slope { ⌜ Bounded 16382 a ⌝ }
     requires offset { ⌜ Bounded 1000000000 c ⌝ }
     ensures { λ r. ⌜ Kept (Above a c) lo hi (r .left) (r .right) ⌝ }
 {
-    if c >= 0 {
-        if a >= 0 {
-            return Run {
-                left: lo,
-                right: hi,
-            };
+    if c < 0 {
+        if a <= 0 {
+            return Run { left: 0, right: 0 };
         }
-        let last = rounded(c, 0 - a, false);
+        let first = rounded(0 - c, a, true);
         return Run {
-            left: lo,
-            right: whole::clamp_i64(last + 1, hi),
+            left: whole::max_usize(lo, whole::clamp_i64(first, hi)),
+            right: hi,
         };
     }
-    if a <= 0 {
-        return Run { left: 0, right: 0 };
+    if a >= 0 {
+        return Run {
+            left: lo,
+            right: hi,
+        };
     }
-    let first = rounded(0 - c, a, true);
+    let last = rounded(c, 0 - a, false);
     Run {
-        left: whole::max_usize(lo, whole::clamp_i64(first, hi)),
-        right: hi,
+        left: lo,
+        right: whole::clamp_i64(last + 1, hi),
     }
 }
 

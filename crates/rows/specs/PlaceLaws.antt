@@ -1,10 +1,11 @@
 -- Laws: the running sums of a row, and the lengths of places and rows.
 use mathlib.Core.Path.{_≡_, refl, sym, ap, _∙_}
+use mathlib.Core.Bool.{Bool, true, false, cond}
 use mathlib.Core.List.{List, _++_}
 use Prim.Native.Nat.{ℕ, zero, suc, _+_, _*_, _≤_, _<_}
 use native.Mathlib.Numerals.{add-one}
 use native.Mathlib.Omega.{arith}
-use lib.ListN.{length, take, getD, length-append}
+use lib.ListN.{length, take, drop, getD, length-append}
 use lib.Seq.{length-take-le}
 use lib.Ieee.{Float, nan}
 use Rattle.laws.specs.Before.{before}
@@ -12,17 +13,20 @@ use Rattle.laws.specs.BeforeLaws.{before-none, before-more}
 use Rattle.laws.specs.RowLaws.{length-putRows}
 use Rattle.sums.specs.declared.ShapeSums.{ShapeSums}
 use Rattle.sums.specs.Sums.{noSums, pixelSums, plus}
-use Rattle.rows.specs.Places.{pixelAt, sumsAt, canvasNine, wholePlace, canvasPlace, wholeRow, canvasRow, RebuildRowSays, RebuildRowCanvasSays, RebuildRowCanvasAnySays}
+use Rattle.rows.specs.Places.{pixelAt, sumsAt, targetSix, canvasNine, placeAt, rowOf, RebuildRowSays}
 
-module _ (w : ℕ) (target canvas old r s : List Float) where
-  pub RebuildRowSays-unique : RebuildRowSays w target canvas old r → RebuildRowSays w target canvas old s → r ≡ s
-  RebuildRowSays-unique p q = p ∙ sym q
+pub RebuildRowSays-unique : (whole : Bool) (w : ℕ) (target canvas old r s : List Float)
+    → RebuildRowSays whole w target canvas old r → RebuildRowSays whole w target canvas old s → r ≡ s
+RebuildRowSays-unique whole w target canvas old r s p q = p ∙ sym q
 
-  pub RebuildRowCanvasSays-unique : RebuildRowCanvasSays w target canvas old r → RebuildRowCanvasSays w target canvas old s → r ≡ s
-  RebuildRowCanvasSays-unique p q = p ∙ sym q
+-- what a place is left with: the six and the nine, or the nine alone
+module _ (whole : Bool) (s : ShapeSums) (old last : List Float) where
+  pub put-whole : (mid : List Float) → whole ≡ true → mid ≡ targetSix s ++ drop 6 old → last ≡ take 6 mid ++ canvasNine s
+      → last ≡ cond whole (targetSix s) (take 6 old) ++ canvasNine s
+  put-whole mid w e f = f ∙ ap (λ (l : List Float). take 6 l ++ canvasNine s) e ∙ sym (ap (λ (b : Bool). cond b (targetSix s) (take 6 old) ++ canvasNine s) w)
 
-  pub RebuildRowCanvasAnySays-unique : RebuildRowCanvasAnySays w target canvas old r → RebuildRowCanvasAnySays w target canvas old s → r ≡ s
-  RebuildRowCanvasAnySays-unique p q = p ∙ sym q
+  pub put-part : whole ≡ false → last ≡ take 6 old ++ canvasNine s → last ≡ cond whole (targetSix s) (take 6 old) ++ canvasNine s
+  put-part w f = f ∙ sym (ap (λ (b : Bool). cond b (targetSix s) (take 6 old) ++ canvasNine s) w)
 
 module _ (target canvas : List Float) where
   pub sums-none : noSums ≡ sumsAt target canvas 0
@@ -39,20 +43,12 @@ module _ (target canvas : List Float) where
   sums-count zero = refl
   sums-count (suc x) = ap (λ (n : ℕ). n + 1) (sums-count x) ∙ add-one x
 
-  module _ (w : ℕ) where
-    -- a place keeps its length
-    pub keeps-whole : (x : ℕ) → x < w + 1 → (p : List Float) → length p ≡ 15 → length (wholePlace target canvas x p) ≡ 15
-    unfolding wholePlace
-    keeps-whole x g p e = refl
+  -- a place keeps its length, and so does a row
+  pub keeps-place : (whole : Bool) (w x : ℕ) → x < w + 1 → (p : List Float) → length p ≡ 15 → length (placeAt whole target canvas x p) ≡ 15
+  unfolding placeAt
+  keeps-place true w x g p e = refl
+  keeps-place false w x g p e =
+      length-append (take 6 p) (canvasNine (sumsAt target canvas x)) ∙ ap (λ (n : ℕ). n + 9) (length-take-le 6 p (omega arith))
 
-    pub keeps-canvas : (x : ℕ) → x < w + 1 → (p : List Float) → length p ≡ 15 → length (canvasPlace target canvas x p) ≡ 15
-    unfolding canvasPlace
-    keeps-canvas x g p e =
-        length-append (take 6 p) (canvasNine (sumsAt target canvas x)) ∙ ap (λ (n : ℕ). n + 9) (length-take-le 6 p (omega arith))
-
-    -- and so does a row
-    pub length-whole : (row : List Float) → length row ≡ (w + 1) * 15 → length (wholeRow w target canvas row) ≡ (w + 1) * 15
-    length-whole row e = length-putRows 15 (w + 1) (wholePlace target canvas) keeps-whole 0 (w + 1) row (omega arith) (omega arith) e
-
-    pub length-canvas : (row : List Float) → length row ≡ (w + 1) * 15 → length (canvasRow w target canvas row) ≡ (w + 1) * 15
-    length-canvas row e = length-putRows 15 (w + 1) (canvasPlace target canvas) keeps-canvas 0 (w + 1) row (omega arith) (omega arith) e
+  pub length-row : (whole : Bool) (w : ℕ) (row : List Float) → length row ≡ (w + 1) * 15 → length (rowOf whole w target canvas row) ≡ (w + 1) * 15
+  length-row whole w row e = length-putRows 15 (w + 1) (placeAt whole target canvas) (keeps-place whole w) 0 (w + 1) row (omega arith) (omega arith) e

@@ -1,5 +1,7 @@
 pub mod Finalize
 pub mod FinalizeLaws
+pub mod FinalizeFigures
+pub mod FinalizeMeans
 pub mod Levels
 pub mod LevelLaws
 pub mod Sweep
@@ -8,3 +10,4 @@ pub mod Swept
 pub mod Scoring
 pub mod RunSums
 pub mod ScoringLaws
+pub mod CallLaws

@@ -6,7 +6,9 @@ use mathlib.Core.List.{List}
 use Prim.Native.Nat.{ℕ, zero, suc, _+_, _-_, _*_, _≤_, _<_}
 use native.Mathlib.Omega.{arith}
 use native.Mathlib.Decide.{decLe}
-use borrow.Author.Tests.{lt-ltb, le-ltb}
+use borrow.Author.Tests.{lt-ltb, le-ltb, ltb-false}
+use Rattle.laws.specs.Bools.{or-left, or-right}
+use Rattle.score.specs.declared.Request.the-variants.{Levels}
 use lib.Dec.{ltb}
 use lib.Ieee.{Float}
 use Rattle.laws.specs.Ends.{Ends, none, ends, endsOf, leftOf, rightOf}
@@ -27,7 +29,7 @@ use Rattle.score.specs.declared.Scored.{Scored}
 use Rattle.score.specs.declared.Collected.{Collected}
 use Rattle.score.specs.declared.Request.{Request}
 use Rattle.score.specs.RunSums.{runAdded, runLeft, runRight, runsAdded, pixelsAdded, pointsAdded, RunsFit}
-use Rattle.score.specs.Scoring.{spanSums, pointSums, pixelAt, AlphaSweepSays, CollectSpanSumsSays, CollectPointSumsSays, SpanScoreSays, PointScoreSays}
+use Rattle.score.specs.Scoring.{spanSums, pointSums, pixelAt, badCount, AlphaSweepSays, CollectSpanSumsSays, CollectPointSumsSays, SpanScoreSays, PointScoreSays}
 
 pub AlphaSweepSays-unique : (s : ShapeSums) (levels : List Float) (n : ℕ) (r q : Scored) → AlphaSweepSays s levels n r → AlphaSweepSays s levels n q → r ≡ q
 AlphaSweepSays-unique s levels n r q f g = f ∙ sym g
@@ -46,6 +48,10 @@ SpanScoreSays-unique kind request levels w h table r q f g = f ∙ sym g
 pub PointScoreSays-unique : (kind : Kind) (request : Request) (levels : List Float) (w h : ℕ) (target canvas : List Float) (r q : Scored)
     → PointScoreSays kind request levels w h target canvas r → PointScoreSays kind request levels w h target canvas q → r ≡ q
 PointScoreSays-unique kind request levels w h target canvas r q f g = f ∙ sym g
+
+-- a level count that is not refused
+pub count-range : (n : ℕ) → badCount (Levels n) ≡ false → (1 ≤ n) × (n ≤ 64)
+count-range n h = (ltb-false n 1 (or-left (ltb n 1) (ltb 64 n) h), ltb-false 64 n (or-right (ltb n 1) (ltb 64 n) h))
 
 -- ---- spans
 added-ends : (w : ℕ) (table : List Float) (y n : ℕ) (p : ℕ → Bool) (e : Ends) → Ended p n e → (s : ShapeSums)

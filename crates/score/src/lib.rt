@@ -13,6 +13,7 @@ ghost use Rattle.score.specs.Finalize.{
 ghost use Rattle.score.specs.Swept.{swept};
 use sums::ShapeSums;
 
+pub mod calls;
 pub mod levels;
 mod points;
 mod spans;

@@ -23,6 +23,9 @@ sum3 a b = three (channel a 0 ⊕ channel b 0) (channel a 1 ⊕ channel b 1) (ch
 abbrev pub difference3 : List Float → List Float → List Float
 difference3 a b = three (channel a 0 ⊖ channel b 0) (channel a 1 ⊖ channel b 1) (channel a 2 ⊖ channel b 2)
 
+abbrev pub product3 : List Float → List Float → List Float
+product3 a b = three (channel a 0 ⊗ channel b 0) (channel a 1 ⊗ channel b 1) (channel a 2 ⊗ channel b 2)
+
 -- the sums over no pixel
 unfoldable pub noSums : ShapeSums
 noSums = record {

@@ -1,7 +1,7 @@
 // The running sums of a score and of a row of the table: target, canvas, their squares and their products over some pixels.
 ghost use mathlib.Core.Path.{_≡_};
 ghost use Prim.Native.Nat.{_+_, _<_, _≤_, _^_};
-ghost use Rattle.sums.specs.Sums.{sum3, difference3, pixelSums, NewSays, PlusSays, MinusSays, PushSays, PushWideSays};
+ghost use Rattle.sums.specs.Sums.{sum3, difference3, product3, pixelSums, NewSays, PlusSays, MinusSays, PushSays, PushWideSays};
 
 pub struct ShapeSums {
     pub s_t: [f64; 3],
@@ -115,9 +115,9 @@ fn pixel(tr: f64, tg: f64, tb: f64, cr: f64, cg: f64, cb: f64) -> ShapeSums
 {
     let s_t = [tr, tg, tb];
     let s_c = [cr, cg, cb];
-    let s_t2 = [tr * tr, tg * tg, tb * tb];
-    let s_c2 = [cr * cr, cg * cg, cb * cb];
-    let s_tc = [tr * cr, tg * cg, tb * cb];
+    let s_t2 = mul3(s_t, s_t);
+    let s_c2 = mul3(s_c, s_c);
+    let s_tc = mul3(s_t, s_c);
     ShapeSums {
         s_t,
         s_c,
@@ -138,4 +138,10 @@ fn sub3(a: [f64; 3], b: [f64; 3]) -> [f64; 3]
     ensures { λ r. ⌜ r ≡ difference3 a b ⌝ }
 {
     [a[0] - b[0], a[1] - b[1], a[2] - b[2]]
+}
+
+fn mul3(a: [f64; 3], b: [f64; 3]) -> [f64; 3]
+    ensures { λ r. ⌜ r ≡ product3 a b ⌝ }
+{
+    [a[0] * b[0], a[1] * b[1], a[2] * b[2]]
 }

@@ -13,7 +13,6 @@ use lib.IntN.{ℤ, pos}
 use lib.Signed.{leZ, ltZ}
 use native.Mathlib.Decide.{decLe}
 use borrow.Author.Tests.{le-leb, lt-leb, lt-ltb, le-ltb}
-use Rattle.laws.specs.RowSumLaws.{redone-fresh, kept-target}
 use lib.Ieee.{Float, nan}
 use Rattle.laws.specs.F64.{_⊕_}
 use Rattle.laws.specs.Before.{before}
@@ -24,17 +23,17 @@ use Rattle.laws.specs.RowSums.{OfTarget, OfCanvas, target-values, target-square
 use Rattle.float.specs.Within.{nought}
 use Rattle.sums.specs.declared.ShapeSums.{ShapeSums}
 use Rattle.sums.specs.Sums.{channel, noSums, pixelSums, plus}
-use Rattle.rows.specs.Places.{pixelAt, sumsAt, targetSix, canvasNine, wholePlace, canvasPlace, wholeRow, canvasRow}
-use Rattle.rows.specs.PlaceLaws.{keeps-whole, keeps-canvas, length-whole, length-canvas}
+use Rattle.rows.specs.Places.{pixelAt, sumsAt, targetSix, canvasNine, placeAt}
+use Rattle.rows.specs.PlaceLaws.{keeps-place, length-row}
 use Rattle.table.specs.Layout.{Series, ofTarget, ofCanvas, lane, at, entry}
 use Rattle.table.specs.Table.{f64Sums, picture, Table, redone, Updated}
-use Rattle.table.specs.Fills.{wholeAt, canvasAt}
+use Rattle.table.specs.Fills.{rowAt}
 use Rattle.table.specs.LayoutLaws.{lane-le, at-row, entries-same}
 
 -- ---- a place
 
 -- the number of a series and a channel among sums
-abbrev field : Series → ShapeSums → List Float
+abbrev pub field : Series → ShapeSums → List Float
 field (ofTarget target-values) a = a .«s_t»
 field (ofTarget target-squares) a = a .«s_t2»
 field (ofCanvas canvas-values) a = a .«s_c»
@@ -85,10 +84,10 @@ from-six canvas-values ch = omega arith
 from-six canvas-squares ch = omega arith
 from-six products ch = omega arith
 
-in-nine : (p : List Float) (a : ShapeSums) (s : OfCanvas) (ch : ℕ) → 6 ≤ length p → ch < 3 → getD (take 6 p ++ canvasNine a) (lane (ofCanvas s) + ch) nan ≡ channel (field (ofCanvas s) a) ch
-in-nine p a s ch m c =
+in-nine : (six : List Float) (a : ShapeSums) (s : OfCanvas) (ch : ℕ) → length six ≡ 6 → ch < 3 → getD (six ++ canvasNine a) (lane (ofCanvas s) + ch) nan ≡ channel (field (ofCanvas s) a) ch
+in-nine six a s ch e c =
     let l : 6 ≤ lane (ofCanvas s) + ch = from-six s ch in
-    later (take 6 p) (canvasNine a) (lane (ofCanvas s) + ch) (length-take-le 6 p m) l
+    later six (canvasNine a) (lane (ofCanvas s) + ch) e l
     ∙ sym (later (targetSix a) (canvasNine a) (lane (ofCanvas s) + ch) refl l)
     ∙ in-whole a (ofCanvas s) ch c
 
@@ -149,7 +148,7 @@ cell w y i ch p l c =
     let e : y * (w * 3) + (i * 3 + ch) ≡ (y * w + i) * 3 + ch = omega arith in
     getD-cut (w * 3) y (i * 3 + ch) p nan (omega arith) ∙ ap (λ (j : ℕ). getD p j nan) e
 
-row-rule : (w : ℕ) (target canvas : List Float) (s : Series) (ch y x : ℕ) → ch < 3 → x ≤ w
+pub row-rule : (w : ℕ) (target canvas : List Float) (s : Series) (ch y x : ℕ) → ch < 3 → x ≤ w
     → channel (field s (sumsAt (cut (w * 3) y target) (cut (w * 3) y canvas) x)) ch ≡ sumOf w target canvas s ch y x
 unfolding targetSum canvasSum
 row-rule w target canvas (ofTarget s) ch y x c m =
@@ -171,103 +170,99 @@ entry-cut w t s ch y x c m =
     ∙ sym (getD-cut ((w + 1) * 15) y (x * 15 + (lane s + ch)) t nan (omega arith))
     ∙ sym (getD-cut 15 x (lane s + ch) (cut ((w + 1) * 15) y t) nan l)
 
-module _ (w h : ℕ) (target canvas t : List Float) (e : length t ≡ h * ((w + 1) * 15)) where
-  pub keeps-wholeAt : (y : ℕ) → y < h → (r : List Float) → length r ≡ (w + 1) * 15 → length (wholeAt w target canvas y r) ≡ (w + 1) * 15
-  unfolding wholeAt
-  keeps-wholeAt y l r f = length-whole (cut (w * 3) y target) (cut (w * 3) y canvas) w r f
+module _ (whole : Bool) (w h : ℕ) (target canvas t : List Float) (e : length t ≡ h * ((w + 1) * 15)) (lo hi : ℕ) (p : lo ≤ hi) (q : hi ≤ h) where
+  keeps : (y : ℕ) → y < h → (r : List Float) → length r ≡ (w + 1) * 15 → length (rowAt whole w target canvas y r) ≡ (w + 1) * 15
+  unfolding rowAt
+  keeps y l r f = length-row (cut (w * 3) y target) (cut (w * 3) y canvas) whole w r f
 
-  pub keeps-canvasAt : (y : ℕ) → y < h → (r : List Float) → length r ≡ (w + 1) * 15 → length (canvasAt w target canvas y r) ≡ (w + 1) * 15
-  unfolding canvasAt
-  keeps-canvasAt y l r f = length-canvas (cut (w * 3) y target) (cut (w * 3) y canvas) w r f
+  -- rows lo to hi, redone
+  abbrev after : List Float
+  after = putRows ((w + 1) * 15) (rowAt whole w target canvas) lo hi t
 
-  -- ---- all rows, all fifteen
-  built-entry : (s : Series) (ch y x : ℕ) → ch < 3 → y < h → x ≤ w
-      → entry w (putRows ((w + 1) * 15) (wholeAt w target canvas) 0 h t) s ch y x ≡ sumOf w target canvas s ch y x
-  unfolding wholeAt wholePlace
-  built-entry s ch y x c l m =
-      let tr = cut (w * 3) y target in
-      let cr = cut (w * 3) y canvas in
-      let row = cut ((w + 1) * 15) y t in
-      entry-cut w (putRows ((w + 1) * 15) (wholeAt w target canvas) 0 h t) s ch y x c m
-      ∙ ap (λ r. getD (cut 15 x r) (lane s + ch) nan) (cut-inside ((w + 1) * 15) h (wholeAt w target canvas) keeps-wholeAt 0 h y t (omega arith) e (omega arith) l)
-      ∙ ap (λ r. getD r (lane s + ch) nan) (cut-inside 15 (w + 1) (wholePlace tr cr) (keeps-whole tr cr w) 0 (w + 1) x row (omega arith) (length-cut ((w + 1) * 15) y h t e l) (omega arith) (omega arith))
-      ∙ in-whole (sumsAt tr cr x) s ch c
-      ∙ row-rule w target canvas s ch y x c m
+  after-size : length after ≡ h * ((w + 1) * 15)
+  after-size = length-putRows ((w + 1) * 15) h (rowAt whole w target canvas) keeps lo hi t p q e
 
-  pub built : Table w h target canvas (putRows ((w + 1) * 15) (wholeAt w target canvas) 0 h t)
-  built = record {
-    size = length-putRows ((w + 1) * 15) h (wholeAt w target canvas) keeps-wholeAt 0 h t (omega arith) (omega arith) e ∙ omega arith;
-    targets = λ s ch y x c l m. built-entry (ofTarget s) ch y x c l m;
-    canvases = λ s ch y x c l m. built-entry (ofCanvas s) ch y x c l m;
-  }
+  -- another row is as it was
+  outside-entry : (s : Series) (ch y x : ℕ) → ch < 3 → y < h → x ≤ w → (y < lo) ⊎ (hi ≤ y) → entry w after s ch y x ≡ entry w t s ch y x
+  outside-entry s ch y x c l m o =
+      entry-cut w after s ch y x c m
+      ∙ ap (λ r. getD (cut 15 x r) (lane s + ch) nan) (cut-outside ((w + 1) * 15) h (rowAt whole w target canvas) keeps lo hi y t p q e o)
+      ∙ sym (entry-cut w t s ch y x c m)
 
-  -- ---- rows lo to hi, the nine
-  module _ (lo hi : ℕ) (p : lo ≤ hi) (q : hi ≤ h) where
-    abbrev after : List Float
-    after = putRows ((w + 1) * 15) (canvasAt w target canvas) lo hi t
-
-    outside-entry : (s : Series) (ch y x : ℕ) → ch < 3 → y < h → x ≤ w → (y < lo) ⊎ (hi ≤ y) → entry w after s ch y x ≡ entry w t s ch y x
-    outside-entry s ch y x c l m o =
-        entry-cut w after s ch y x c m
-        ∙ ap (λ r. getD (cut 15 x r) (lane s + ch) nan) (cut-outside ((w + 1) * 15) h (canvasAt w target canvas) keeps-canvasAt lo hi y t p q e o)
-        ∙ sym (entry-cut w t s ch y x c m)
-
-    inside-place : (y x : ℕ) → y < h → x ≤ w → lo ≤ y → y < hi
-        → cut 15 x (cut ((w + 1) * 15) y after) ≡ canvasPlace (cut (w * 3) y target) (cut (w * 3) y canvas) x (cut 15 x (cut ((w + 1) * 15) y t))
-    unfolding canvasAt
-    inside-place y x l m a b =
+  module _ (y x : ℕ) (l : y < h) (m : x ≤ w) (a : lo ≤ y) (b : y < hi) where
+    inside-place : cut 15 x (cut ((w + 1) * 15) y after) ≡ placeAt whole (cut (w * 3) y target) (cut (w * 3) y canvas) x (cut 15 x (cut ((w + 1) * 15) y t))
+    unfolding rowAt
+    inside-place =
         let tr = cut (w * 3) y target in
         let cr = cut (w * 3) y canvas in
-        ap (cut 15 x) (cut-inside ((w + 1) * 15) h (canvasAt w target canvas) keeps-canvasAt lo hi y t q e a b)
-        ∙ cut-inside 15 (w + 1) (canvasPlace tr cr) (keeps-canvas tr cr w) 0 (w + 1) x (cut ((w + 1) * 15) y t) (omega arith) (length-cut ((w + 1) * 15) y h t e l) (omega arith) (omega arith)
+        ap (cut 15 x) (cut-inside ((w + 1) * 15) h (rowAt whole w target canvas) keeps lo hi y t q e a b)
+        ∙ cut-inside 15 (w + 1) (placeAt whole tr cr) (keeps-place tr cr whole w) 0 (w + 1) x (cut ((w + 1) * 15) y t) (omega arith) (length-cut ((w + 1) * 15) y h t e l) (omega arith) (omega arith)
 
-    long : (y x : ℕ) → y < h → x ≤ w → 6 ≤ length (cut 15 x (cut ((w + 1) * 15) y t))
-    long y x l m = omega (arith, length-cut 15 x (w + 1) (cut ((w + 1) * 15) y t) (length-cut ((w + 1) * 15) y h t e l) (omega arith))
+    long : 6 ≤ length (cut 15 x (cut ((w + 1) * 15) y t))
+    long = omega (arith, length-cut 15 x (w + 1) (cut ((w + 1) * 15) y t) (length-cut ((w + 1) * 15) y h t e l) (omega arith))
 
-    target-entry : (s : OfTarget) (ch y x : ℕ) → ch < 3 → y < h → x ≤ w → lo ≤ y → y < hi → entry w after (ofTarget s) ch y x ≡ entry w t (ofTarget s) ch y x
-    unfolding canvasPlace
-    target-entry s ch y x c l m a b =
-        entry-cut w after (ofTarget s) ch y x c m
-        ∙ ap (λ r. getD r (lane (ofTarget s) + ch) nan) (inside-place y x l m a b)
-        ∙ kept-six (cut 15 x (cut ((w + 1) * 15) y t)) (canvasNine (sumsAt (cut (w * 3) y target) (cut (w * 3) y canvas) x)) s ch (long y x l m) c
-        ∙ sym (entry-cut w t (ofTarget s) ch y x c m)
-
-    canvas-entry : (s : OfCanvas) (ch y x : ℕ) → ch < 3 → y < h → x ≤ w → lo ≤ y → y < hi → entry w after (ofCanvas s) ch y x ≡ sumOf w target canvas (ofCanvas s) ch y x
-    unfolding canvasPlace
-    canvas-entry s ch y x c l m a b =
+    -- a redone row: the canvas's sums afresh; the target's too, or as they were
+    canvas-entry : (s : OfCanvas) (ch : ℕ) → ch < 3 → entry w after (ofCanvas s) ch y x ≡ sumOf w target canvas (ofCanvas s) ch y x
+    unfolding placeAt
+    canvas-entry s ch c =
         entry-cut w after (ofCanvas s) ch y x c m
-        ∙ ap (λ r. getD r (lane (ofCanvas s) + ch) nan) (inside-place y x l m a b)
-        ∙ in-nine (cut 15 x (cut ((w + 1) * 15) y t)) (sumsAt (cut (w * 3) y target) (cut (w * 3) y canvas) x) s ch (long y x l m) c
+        ∙ ap (λ r. getD r (lane (ofCanvas s) + ch) nan) inside-place
+        ∙ in-nine (cond whole (targetSix (sumsAt (cut (w * 3) y target) (cut (w * 3) y canvas) x)) (take 6 (cut 15 x (cut ((w + 1) * 15) y t)))) (sumsAt (cut (w * 3) y target) (cut (w * 3) y canvas) x) s ch (six-long whole) c
         ∙ row-rule w target canvas (ofCanvas s) ch y x c m
+      where
+        six-long : (v : Bool) → length (cond v (targetSix (sumsAt (cut (w * 3) y target) (cut (w * 3) y canvas) x)) (take 6 (cut 15 x (cut ((w + 1) * 15) y t)))) ≡ 6
+        six-long true = refl
+        six-long false = length-take-le 6 (cut 15 x (cut ((w + 1) * 15) y t)) long
 
-    -- which rows those are
-    module _ (ymin ymax : ℤ) (below : (y : ℕ) → y < hi → leb lo y ≡ leZ ymin (pos y)) (above : (y : ℕ) → y < h → ltb y hi ≡ ltZ ymax (pos 0) || leZ (pos y) ymax) where
-      inside : (y : ℕ) → y < h → lo ≤ y → y < hi → redone ymin ymax y ≡ true
-      unfolding redone
-      inside y l a b =
-          ap (λ z. z && (ltZ ymax (pos 0) || leZ (pos y) ymax)) (sym (below y b) ∙ le-leb lo y a) ∙ sym (above y l) ∙ lt-ltb y hi b
+    target-entry : (s : OfTarget) (ch : ℕ) → ch < 3 → entry w after (ofTarget s) ch y x ≡ cond whole (sumOf w target canvas (ofTarget s) ch y x) (entry w t (ofTarget s) ch y x)
+    unfolding placeAt
+    target-entry s ch c =
+        entry-cut w after (ofTarget s) ch y x c m
+        ∙ ap (λ r. getD r (lane (ofTarget s) + ch) nan) inside-place
+        ∙ by whole
+      where
+        by : (v : Bool) → getD (cond v (targetSix (sumsAt (cut (w * 3) y target) (cut (w * 3) y canvas) x)) (take 6 (cut 15 x (cut ((w + 1) * 15) y t))) ++ canvasNine (sumsAt (cut (w * 3) y target) (cut (w * 3) y canvas) x)) (lane (ofTarget s) + ch) nan
+            ≡ cond v (sumOf w target canvas (ofTarget s) ch y x) (entry w t (ofTarget s) ch y x)
+        by true = in-whole (sumsAt (cut (w * 3) y target) (cut (w * 3) y canvas) x) (ofTarget s) ch c ∙ row-rule w target canvas (ofTarget s) ch y x c m
+        by false = kept-six (cut 15 x (cut ((w + 1) * 15) y t)) (canvasNine (sumsAt (cut (w * 3) y target) (cut (w * 3) y canvas) x)) s ch long c ∙ sym (entry-cut w t (ofTarget s) ch y x c m)
 
-      outside : (y : ℕ) → y < h → (y < lo) ⊎ (hi ≤ y) → redone ymin ymax y ≡ false
-      unfolding redone
-      outside y l (inl o) = ap (λ z. z && (ltZ ymax (pos 0) || leZ (pos y) ymax)) (sym (below y (omega arith)) ∙ lt-leb lo y o)
-      outside y l (inr o) = ap (λ z. leZ ymin (pos y) && z) (sym (above y l) ∙ le-ltb y hi o) ∙ and-false (leZ ymin (pos y))
+-- all rows, all fifteen: the table
+pub built : (w h : ℕ) (target canvas t : List Float) → length t ≡ h * ((w + 1) * 15) → Table w h target canvas (putRows ((w + 1) * 15) (rowAt true w target canvas) 0 h t)
+built w h target canvas t e = record {
+  size = after-size true w h target canvas t e 0 h (omega arith) (omega arith) ∙ omega arith;
+  targets = λ s ch y x c l m. target-entry true w h target canvas t e 0 h (omega arith) (omega arith) y x l m (omega arith) l s ch c;
+  canvases = λ s ch y x c l m. canvas-entry true w h target canvas t e 0 h (omega arith) (omega arith) y x l m (omega arith) l s ch c;
+}
 
-      where-is : (y : ℕ) → ((lo ≤ y) × (y < hi)) ⊎ ((y < lo) ⊎ (hi ≤ y))
-      where-is y = elim (decLe lo y) [
-        | no a ↦ inr (inl (omega arith))
-        | yes a ↦ elim (decLe hi y) [
-          | yes b ↦ inr (inr b)
-          | no b ↦ inl (a, omega arith)
-        ]
-      ]
+-- rows lo to hi, the nine: the update of the rows that lo and hi leave between them
+module _ (w h : ℕ) (target canvas t : List Float) (e : length t ≡ h * ((w + 1) * 15)) (lo hi : ℕ) (p : lo ≤ hi) (q : hi ≤ h)
+    (ymin ymax : ℤ) (below : (y : ℕ) → y < hi → leb lo y ≡ leZ ymin (pos y)) (above : (y : ℕ) → y < h → ltb y hi ≡ ltZ ymax (pos 0) || leZ (pos y) ymax) where
+  inside : (y : ℕ) → y < h → lo ≤ y → y < hi → redone ymin ymax y ≡ true
+  unfolding redone
+  inside y l a b =
+      ap (λ z. z && (ltZ ymax (pos 0) || leZ (pos y) ymax)) (sym (below y b) ∙ le-leb lo y a) ∙ sym (above y l) ∙ lt-ltb y hi b
 
-      pub updated : Updated w h target canvas ymin ymax t after
-      updated = record {
-        size = length-putRows ((w + 1) * 15) h (canvasAt w target canvas) keeps-canvasAt lo hi t p q e ∙ sym e;
-        targets = λ s ch y x c l m. ⊎-elim (λ i. target-entry s ch y x c l m (i .0) (i .1)) (λ o. outside-entry (ofTarget s) ch y x c l m o) (where-is y);
-        canvases = λ s ch y x c l m.
-            ⊎-elim
-            (λ i. canvas-entry s ch y x c l m (i .0) (i .1) ∙ ap (λ b. cond b (sumOf w target canvas (ofCanvas s) ch y x) (entry w t (ofCanvas s) ch y x)) (sym (inside y l (i .0) (i .1))))
-            (λ o. outside-entry (ofCanvas s) ch y x c l m o ∙ ap (λ b. cond b (sumOf w target canvas (ofCanvas s) ch y x) (entry w t (ofCanvas s) ch y x)) (sym (outside y l o)))
-            (where-is y);
-      }
+  outside : (y : ℕ) → y < h → (y < lo) ⊎ (hi ≤ y) → redone ymin ymax y ≡ false
+  unfolding redone
+  outside y l (inl o) = ap (λ z. z && (ltZ ymax (pos 0) || leZ (pos y) ymax)) (sym (below y (omega arith)) ∙ lt-leb lo y o)
+  outside y l (inr o) = ap (λ z. leZ ymin (pos y) && z) (sym (above y l) ∙ le-ltb y hi o) ∙ and-false (leZ ymin (pos y))
+
+  where-is : (y : ℕ) → ((lo ≤ y) × (y < hi)) ⊎ ((y < lo) ⊎ (hi ≤ y))
+  where-is y = elim (decLe lo y) [
+    | no a ↦ inr (inl (omega arith))
+    | yes a ↦ elim (decLe hi y) [
+      | yes b ↦ inr (inr b)
+      | no b ↦ inl (a, omega arith)
+    ]
+  ]
+
+  pub updated : Updated w h target canvas ymin ymax t (putRows ((w + 1) * 15) (rowAt false w target canvas) lo hi t)
+  updated = record {
+    size = after-size false w h target canvas t e lo hi p q ∙ sym e;
+    targets = λ s ch y x c l m. ⊎-elim (λ i. target-entry false w h target canvas t e lo hi p q y x l m (i .0) (i .1) s ch c) (λ o. outside-entry false w h target canvas t e lo hi p q (ofTarget s) ch y x c l m o) (where-is y);
+    canvases = λ s ch y x c l m.
+        ⊎-elim
+        (λ i. canvas-entry false w h target canvas t e lo hi p q y x l m (i .0) (i .1) s ch c ∙ ap (λ b. cond b (sumOf w target canvas (ofCanvas s) ch y x) (entry w t (ofCanvas s) ch y x)) (sym (inside y l (i .0) (i .1))))
+        (λ o. outside-entry false w h target canvas t e lo hi p q (ofCanvas s) ch y x c l m o ∙ ap (λ b. cond b (sumOf w target canvas (ofCanvas s) ch y x) (entry w t (ofCanvas s) ch y x)) (sym (outside y l o)))
+        (where-is y);
+  }

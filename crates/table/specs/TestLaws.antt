@@ -14,8 +14,7 @@ use Rattle.refusal.specs.Refusals.{lowest, sizeIf, lengthIf, pixelIf, badSize}
 use Rattle.refusal.specs.RefusalLaws.{lowest-none, sized}
 use Rattle.refusal.specs.Lengths.{badPicture, badTable}
 use Rattle.refusal.specs.LengthLaws.{picture-length, table-length}
-use Rattle.float.specs.Within.{allWithin, allNumbers}
-use Rattle.float.specs.WithinLaws.{all-within-numbers}
+use Rattle.float.specs.Within.{allWithin}
 use Rattle.table.specs.Table.{Table, Updated, badLengths, buildRefusal, updateRefusal, BuildSays, UpdateCanvasRowsSays}
 use Rattle.table.specs.Fills.{Sizes}
 
@@ -132,6 +131,3 @@ module _ (target canvas : List Float) (w h : ℕ) (table : List Float) where
     done = λ z. t;
     refused = λ n. absurd (n refl);
   }
-
-  pub built-numbers : allWithin target ≡ true → allWithin canvas ≡ true → T (allNumbers target) × T (allNumbers canvas)
-  built-numbers f g = (all-within-numbers target (true-is (allWithin target) f), all-within-numbers canvas (true-is (allWithin canvas) g))

@@ -3,17 +3,16 @@ ghost use mathlib.Core.Path.{_≡_};
 ghost use mathlib.Core.Bool.{_||_};
 ghost use mathlib.Core.List.{[], _∷_};
 ghost use Prim.Native.Nat.{ℕ, _+_, _-_, _*_, _≤_, _<_, _^_};
-ghost use lib.Dec.{T, leb, ltb};
+ghost use lib.Dec.{leb, ltb};
 ghost use lib.ListN.{length, getD};
 ghost use lib.Ieee.{nan};
 ghost use lib.IntN.{pos};
 ghost use lib.Signed.{leZ, ltZ};
 ghost use Rattle.laws.specs.Rows.{cut, putRow, putRows};
-ghost use Rattle.float.specs.Within.{allNumbers};
 ghost use Rattle.refusal.specs.Refusals.{lowest, sizeIf, lengthIf, badSize};
 ghost use Rattle.sums.specs.Sums.{three};
 ghost use Rattle.table.specs.Table.{badLengths, BuildSays, UpdateCanvasRowsSays, AddSpanSays, ReadPlaceSays};
-ghost use Rattle.table.specs.Fills.{Sizes, wholeAt, canvasAt};
+ghost use Rattle.table.specs.Fills.{Sizes, rowAt};
 use sums::ShapeSums;
 
 // The series' places among the fifteen.
@@ -41,7 +40,7 @@ pub fn build(target: &[f32], canvas: &[f32], w: usize, h: usize, table: &mut [f6
     if !float::all_within(canvas) {
         return refusal::PIXEL;
     }
-    build_rows(target, canvas, w, h, table);
+    rebuild_rows(target, canvas, w, h, table, 0, h, true);
     0
 }
 
@@ -64,7 +63,7 @@ pub fn update_canvas_rows(
     }
     let hi = end_row(ymax, h);
     let lo = first_row(ymin, hi);
-    update_rows(target, canvas, w, h, table, lo, hi);
+    rebuild_rows(target, canvas, w, h, table, lo, hi, false);
     0
 }
 
@@ -154,17 +153,8 @@ fn first_row(ymin: i32, hi: usize) -> usize
     if first < hi { first } else { hi }
 }
 
-fn build_rows(target: &[f32], canvas: &[f32], w: usize, h: usize, table: &mut [f64])
-    requires { ⌜ Sizes w h (now target) (now canvas) (now table) ⌝ }
-    requires { ⌜ T (allNumbers (now target)) × T (allNumbers (now canvas)) ⌝ }
-    ensures { λ _. ⌜ now (table .exit) ≡ putRows ((w + 1) * 15) (wholeAt w (now (target .entry)) (now (canvas .entry))) 0 h (now (table .entry)) ⌝ }
-{
-    for y in 0..h {
-        build_row(target, canvas, w, table, y);
-    }
-}
-
-fn update_rows(
+// Rows lo to hi, without hi: all sums, or those that read the canvas.
+fn rebuild_rows(
     target: &[f32],
     canvas: &[f32],
     w: usize,
@@ -172,20 +162,20 @@ fn update_rows(
     table: &mut [f64],
     lo: usize,
     hi: usize,
+    whole: bool,
 )
     requires { ⌜ Sizes w h (now target) (now canvas) (now table) × (lo ≤ hi) × (hi ≤ h) ⌝ }
-    ensures { λ _. ⌜ now (table .exit) ≡ putRows ((w + 1) * 15) (canvasAt w (now (target .entry)) (now (canvas .entry))) lo hi (now (table .entry)) ⌝ }
+    ensures { λ _. ⌜ now (table .exit) ≡ putRows ((w + 1) * 15) (rowAt whole w (now (target .entry)) (now (canvas .entry))) lo hi (now (table .entry)) ⌝ }
 {
     for y in lo..hi {
-        update_row(target, canvas, w, table, y);
+        rebuild_at(target, canvas, w, table, y, whole);
     }
 }
 
 // Row y's part of the table is lent on, and row y of each picture.
-fn build_row(target: &[f32], canvas: &[f32], w: usize, table: &mut [f64], y: usize)
+fn rebuild_at(target: &[f32], canvas: &[f32], w: usize, table: &mut [f64], y: usize, whole: bool)
     requires { ⌜ (w ≤ 256) × (y * (w * 3) + w * 3 ≤ length (now target)) × (y * (w * 3) + w * 3 ≤ length (now canvas)) × (y * ((w + 1) * 15) + (w + 1) * 15 ≤ length (now table)) ⌝ }
-    requires { ⌜ T (allNumbers (now target)) × T (allNumbers (now canvas)) ⌝ }
-    ensures { λ _. ⌜ now (table .exit) ≡ putRow ((w + 1) * 15) y (wholeAt w (now (target .entry)) (now (canvas .entry)) y (cut ((w + 1) * 15) y (now (table .entry)))) (now (table .entry)) ⌝ }
+    ensures { λ _. ⌜ now (table .exit) ≡ putRow ((w + 1) * 15) y (rowAt whole w (now (target .entry)) (now (canvas .entry)) y (cut ((w + 1) * 15) y (now (table .entry)))) (now (table .entry)) ⌝ }
 {
     let n = (w + 1) * 15;
     let a = y * n;
@@ -194,25 +184,8 @@ fn build_row(target: &[f32], canvas: &[f32], w: usize, table: &mut [f64], y: usi
         row_of(target, y, w * 3),
         row_of(canvas, y, w * 3),
         w,
+        whole,
     );
-}
-
-// The same for the canvas's sums. Rows without a NaN take the quicker routine.
-fn update_row(target: &[f32], canvas: &[f32], w: usize, table: &mut [f64], y: usize)
-    requires { ⌜ (w ≤ 256) × (y * (w * 3) + w * 3 ≤ length (now target)) × (y * (w * 3) + w * 3 ≤ length (now canvas)) × (y * ((w + 1) * 15) + (w + 1) * 15 ≤ length (now table)) ⌝ }
-    ensures { λ _. ⌜ now (table .exit) ≡ putRow ((w + 1) * 15) y (canvasAt w (now (target .entry)) (now (canvas .entry)) y (cut ((w + 1) * 15) y (now (table .entry)))) (now (table .entry)) ⌝ }
-{
-    let n = (w + 1) * 15;
-    let a = y * n;
-    let t = row_of(target, y, w * 3);
-    let c = row_of(canvas, y, w * 3);
-    if float::all_numbers(t) {
-        if float::all_numbers(c) {
-            rows::rebuild_row_canvas(&mut table[a..a + n], t, c, w);
-            return;
-        }
-    }
-    rows::rebuild_row_canvas_any(&mut table[a..a + n], t, c, w);
 }
 
 fn row_of(picture: &[f32], y: usize, n: usize) -> &[f32]

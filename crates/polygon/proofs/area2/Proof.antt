@@ -4,8 +4,8 @@ use native.Mathlib.Omega.{arith}
 use borrow.Author.Needs.{sfits-of}
 use mir.Facts.{toZ-ofZ}
 use mir.Syntax.{w32}
-use Rattle.laws.specs.Bounds.{rd}
-use Rattle.polygon.specs.StepLaws.{area2-at, corner-placed}
+use Rattle.laws.specs.Bounds.{rd, arg, ldw}
+use Rattle.polygon.specs.StepLaws.{area2-at}
 use Rattle.polygon.proofs.area2.Statement.{statement}
 use Rattle.polygon.proofs.area2.Tie as tie
 
@@ -29,9 +29,10 @@ shared-slice-copy-out-side-6 c = omega arith
 
 side-requires : tie.Need-side-requires
 side-requires c κs =
-    let s = c .before .before .before .before .before .before in
-    let corner = corner-placed (s .args .xs .now) (s .args .ys .now) (s .pre) in
-    (corner 0, (corner 1, corner 2))
+    let p = c .before .before .before .before .before .before .pre in (
+      record { x = arg tt (ldw w32 tt (p .x _)); y = arg tt (ldw w32 tt (p .y _)) },
+      (record { x = arg tt (ldw w32 tt (p .x _)); y = arg tt (ldw w32 tt (p .y _)) }, record { x = arg tt (ldw w32 tt (p .x _)); y = arg tt (ldw w32 tt (p .y _)) }),
+    )
 
 returns : tie.Need-returns
 returns c =

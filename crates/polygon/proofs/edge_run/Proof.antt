@@ -1,7 +1,6 @@
 -- `polygon::edge_run` meets its contract: along the row the edge is a half line, whose numbers are within half_line's bounds.
 use borrow.Author.Needs.{needs, sfits-of}
-use mathlib.Core.Path.{subst}
-use lib.IntN.{ℤ, _-ℤ_, _+ℤ_, _*ℤ_}
+use lib.IntN.{_-ℤ_}
 use mir.Syntax.{w32, w64}
 use mir.Val.{toZ, ofZ}
 use mir.Facts.{toZ-ofZ}

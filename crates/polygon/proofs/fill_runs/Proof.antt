@@ -13,20 +13,12 @@ use Rattle.polygon.specs.Steps.{Signed, signOf}
 use Rattle.polygon.specs.StepLaws.{least-bounded, greatest-bounded}
 use mir.Syntax.{w32, w64}
 use mir.Val.{toZ, ofZ}
-use mir.Facts.{toZ-ofZ}
 use Rattle.laws.specs.Bounds.{Is, ldr, lit, cast, is+, fits-as, fits+, weq, wfits}
 use Rattle.laws.specs.RunLaws.{runsBefore}
 use Rattle.polygon.specs.Polygon.{area2, polygonPixel, corners, leastOf, greatestOf}
 use Rattle.polygon.specs.FillLaws.{some-area, no-area-none, fill-start, fill-more, fill-end, run-within}
 use Rattle.polygon.proofs.fill_runs.Statement.{statement}
 use Rattle.polygon.proofs.fill_runs.Tie as tie
-use Rattle.polygon.proofs.fill_runs.Reads as reads
-use Rattle.polygon.proofs.fill_runs.Lts as lts
-use Rattle.polygon.proofs.area2.Reads as area2-reads
-use Rattle.polygon.proofs.extent_of.Reads as extent-of-reads
-use Rattle.polygon.proofs.row_run.Reads as row-run-reads
-use Rattle.polygon.proofs.sign_of.Reads as sign-of-reads
-use Rattle.whole.proofs.clamp_i64.Reads as clamp-i64-reads
 
 abbrev Inv-loop : tie.InvT-loop
 Inv-loop xs ys w h out₀ area sign first past y₀ out y = (y ≤ h) × (out ≡ runsBefore (polygonPixel (corners xs ys)) w h y)
@@ -73,7 +65,7 @@ cast-clamp-i64-2 : tie.Need-cast-clamp-i64-2 Inv-loop μ-loop
 cast-clamp-i64-2 c = fits-as tt (greatest-read (c .before .before .before .before .before))
 
 add-clamp-i64 : tie.Need-add-clamp-i64 Inv-loop μ-loop
-add-clamp-i64 c = fits+ tt (cast w64 tt (greatest-read (c .before .before .before .before .before))) (lit (pos 1))
+add-clamp-i64 c = fits+ tt (cast w64 tt (greatest-read (c .before .before .before .before .before))) (lit _)
 
 clamp-i64-requires-2 : tie.Need-clamp-i64-requires-2 Inv-loop μ-loop
 clamp-i64-requires-2 c κs = search needs

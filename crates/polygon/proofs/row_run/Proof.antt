@@ -1,19 +1,18 @@
 -- `polygon::row_run` meets its contract. After i turns left..right are the columns inside of the first i edges, and some are left.
-use borrow.Author.Needs.{needs}
-use mathlib.Core.Path.{_≡_, subst, sym}
-use Prim.Native.Nat.{ℕ, _≤_, _<_, _-_, _+_}
+use mathlib.Core.Path.{_≡_}
+use Prim.Native.Nat.{_≤_, _<_, _-_, _+_}
 use native.Mathlib.Omega.{arith}
-use lib.ListN.{length, getD}
-use lib.IntN.{ℤ, pos}
+use lib.ListN.{length}
+use lib.IntN.{pos}
 use mir.Syntax.{w32, w64}
 use mir.Val.{toZ, ofZ}
-use mir.Facts.{toZ-ofZ, toZ-pos}
+use mir.Facts.{toZ-ofZ}
 use Rattle.laws.specs.Bound.{Bounded}
 use Rattle.laws.specs.Bounds.{rd, arg, ld, unsigned, weq, wfits, wpos}
 use Rattle.polygon.specs.Polygon.{area2, corners}
 use Rattle.polygon.specs.Steps.{Kept}
 use Rattle.polygon.specs.StepLaws.{corner-placed, sign-bounded}
-use Rattle.polygon.specs.Around.{corner, InnerAt, First, first-none, first-more, row-whole, row-empty}
+use Rattle.polygon.specs.Around.{First, first-none, first-more, row-whole, row-empty}
 use Rattle.polygon.proofs.row_run.Statement.{statement}
 use Rattle.polygon.proofs.row_run.Tie as tie
 
@@ -93,7 +92,7 @@ returns c =
     let l = e .before .before .before .before .before .before .before in
     let s = l .before in
     row-empty (s .args .xs .now) (s .args .ys .now) (s .pre .0 .same) (s .args .sign) (s .pre .1 .0) (s .args .y) (s .args .w) (l .loop .i + 1) (e .edge-run .result .left) (e .edge-run .result .right)
-    (omega arith) (c .if1 .taken) (rw (toZ-ofZ (s .fits .sign)) at (more e))
+    (omega arith) (omega arith) (rw (toZ-ofZ (s .fits .sign)) at (more e))
 
 add-i : tie.Need-add-i Inv-loop μ-loop
 add-i c = omega arith

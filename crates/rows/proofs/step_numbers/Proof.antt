@@ -18,7 +18,7 @@ shared-slice-read-widen-number : tie.Need-shared-slice-read-widen-number
 shared-slice-read-widen-number c = search needs
 
 widen-number-requires : tie.Need-widen-number-requires
-widen-number-requires c κs = let st = c .before .before .before in every-each number (st .args .target .now) (st .args .x * 3) nan (st .pre .1 .targets) (omega arith)
+widen-number-requires c κs = let st = c .before .before .before in every-each number (st .args .target .now) (st .args .x * 3) nan (st .pre .1 .0) (omega arith)
 
 add-widen-number : tie.Need-add-widen-number
 add-widen-number c = search needs
@@ -30,7 +30,7 @@ shared-slice-read-widen-number-2 : tie.Need-shared-slice-read-widen-number-2
 shared-slice-read-widen-number-2 c = search needs
 
 widen-number-requires-2 : tie.Need-widen-number-requires-2
-widen-number-requires-2 c κs = let st = c .before .before .before .before .before in every-each number (st .args .target .now) (st .args .x * 3 + 1) nan (st .pre .1 .targets) (omega arith)
+widen-number-requires-2 c κs = let st = c .before .before .before .before .before in every-each number (st .args .target .now) (st .args .x * 3 + 1) nan (st .pre .1 .0) (omega arith)
 
 add-widen-number-2 : tie.Need-add-widen-number-2
 add-widen-number-2 c = search needs
@@ -42,7 +42,7 @@ shared-slice-read-widen-number-3 : tie.Need-shared-slice-read-widen-number-3
 shared-slice-read-widen-number-3 c = search needs
 
 widen-number-requires-3 : tie.Need-widen-number-requires-3
-widen-number-requires-3 c κs = let st = c .before .before .before .before .before .before .before in every-each number (st .args .target .now) (st .args .x * 3 + 2) nan (st .pre .1 .targets) (omega arith)
+widen-number-requires-3 c κs = let st = c .before .before .before .before .before .before .before in every-each number (st .args .target .now) (st .args .x * 3 + 2) nan (st .pre .1 .0) (omega arith)
 
 mul-widen-number-4 : tie.Need-mul-widen-number-4
 mul-widen-number-4 c = search needs
@@ -51,7 +51,7 @@ shared-slice-read-widen-number-4 : tie.Need-shared-slice-read-widen-number-4
 shared-slice-read-widen-number-4 c = search needs
 
 widen-number-requires-4 : tie.Need-widen-number-requires-4
-widen-number-requires-4 c κs = let st = c .before .before .before .before .before .before .before .before .before in every-each number (st .args .canvas .now) (st .args .x * 3) nan (st .pre .1 .canvases) (omega arith)
+widen-number-requires-4 c κs = let st = c .before .before .before .before .before .before .before .before .before in every-each number (st .args .canvas .now) (st .args .x * 3) nan (st .pre .1 .1) (omega arith)
 
 add-widen-number-3 : tie.Need-add-widen-number-3
 add-widen-number-3 c = search needs
@@ -63,7 +63,7 @@ shared-slice-read-widen-number-5 : tie.Need-shared-slice-read-widen-number-5
 shared-slice-read-widen-number-5 c = search needs
 
 widen-number-requires-5 : tie.Need-widen-number-requires-5
-widen-number-requires-5 c κs = let st = c .before .before .before .before .before .before .before .before .before .before .before in every-each number (st .args .canvas .now) (st .args .x * 3 + 1) nan (st .pre .1 .canvases) (omega arith)
+widen-number-requires-5 c κs = let st = c .before .before .before .before .before .before .before .before .before .before .before in every-each number (st .args .canvas .now) (st .args .x * 3 + 1) nan (st .pre .1 .1) (omega arith)
 
 add-widen-number-4 : tie.Need-add-widen-number-4
 add-widen-number-4 c = search needs
@@ -75,7 +75,7 @@ shared-slice-read-widen-number-6 : tie.Need-shared-slice-read-widen-number-6
 shared-slice-read-widen-number-6 c = search needs
 
 widen-number-requires-6 : tie.Need-widen-number-requires-6
-widen-number-requires-6 c κs = let st = c .before .before .before .before .before .before .before .before .before .before .before .before .before in every-each number (st .args .canvas .now) (st .args .x * 3 + 2) nan (st .pre .1 .canvases) (omega arith)
+widen-number-requires-6 c κs = let st = c .before .before .before .before .before .before .before .before .before .before .before .before .before in every-each number (st .args .canvas .now) (st .args .x * 3 + 2) nan (st .pre .1 .1) (omega arith)
 
 push-wide-requires : tie.Need-push-wide-requires
 push-wide-requires c κs = search needs

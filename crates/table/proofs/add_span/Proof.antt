@@ -1,3 +1,4 @@
+-- `add_span`: the counts are the places' columns, so that neither difference nor sum wraps.
 use mathlib.Core.Path.{ap, _∙_}
 use Rattle.sums.specs.declared.ShapeSums.{ShapeSums}
 use Rattle.sums.specs.Sums.{minus}

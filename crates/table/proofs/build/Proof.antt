@@ -1,8 +1,10 @@
+-- `build`: the tests leave the sizes and no NaN to the rows' loop, which leaves the table (`built`).
+use native.Mathlib.Omega.{arith}
 use mathlib.Core.Path.{sym, _∙_, subst}
 use borrow.Author.Tests.{not-false}
 use Rattle.table.specs.Table.{Table, updateRefusal}
 use Rattle.table.specs.FillLaws.{built}
-use Rattle.table.specs.TestLaws.{build-refused, bad-target, bad-canvas, build-pixel, build-done, built-numbers, sizes}
+use Rattle.table.specs.TestLaws.{build-refused, bad-target, bad-canvas, build-pixel, build-done, sizes}
 use borrow.Author.Needs.{needs}
 use Rattle.table.proofs.build.Statement.{statement}
 use Rattle.table.proofs.build.Tie as tie
@@ -31,13 +33,11 @@ returns-3 c =
     let a = c .before .before .before .before .before .before .before .before .before .args in
     build-pixel (a .target .now) (a .canvas .now) (a .w) (a .h) (a .table .now) (sym (c .before .before .before .before .before .refused .ensures) ∙ c .before .before .before .before .if1 .left) (bad-canvas (a .target .now) (a .canvas .now) (a .w) (a .h) (a .table .now) _ (c .before .all-within2 .ensures) (c .if3 .taken))
 
-build-rows-requires : tie.Need-build-rows-requires
+rebuild-rows-requires : tie.Need-rebuild-rows-requires
 unfolding updateRefusal
-build-rows-requires c κs =
-    let a = c .before .before .before .before .before .before .before .before .before .before .args in (
-      sizes (a .target .now) (a .canvas .now) (a .w) (a .h) (a .table .now) (sym (c .before .before .before .before .before .before .refused .ensures) ∙ c .before .before .before .before .before .if1 .left),
-      built-numbers (a .target .now) (a .canvas .now) (a .w) (a .h) (a .table .now) (sym (c .before .before .before .before .all-within .ensures) ∙ not-false _ (c .before .before .before .if2 .left)) (sym (c .before .before .all-within2 .ensures) ∙ not-false _ (c .before .if3 .left)),
-    )
+rebuild-rows-requires c κs =
+    let a = c .before .before .before .before .before .before .before .before .before .before .args in
+    (sizes (a .target .now) (a .canvas .now) (a .w) (a .h) (a .table .now) (sym (c .before .before .before .before .before .before .refused .ensures) ∙ c .before .before .before .before .before .if1 .left), omega arith, omega arith)
 
 same-length : tie.Need-same-length
 same-length c = search needs
@@ -48,7 +48,7 @@ returns-4 c =
     let a = c .before .before .before .before .before .before .before .before .before .before .before .before .before .args in
     let e = sym (c .before .before .before .before .before .before .before .before .before .refused .ensures) ∙ c .before .before .before .before .before .before .before .before .if1 .left in
     build-done (a .target .now) (a .canvas .now) (a .w) (a .h) (a .table .now) _ e (sym (c .before .before .before .before .before .before .before .all-within .ensures) ∙ not-false _ (c .before .before .before .before .before .before .if2 .left)) (sym (c .before .before .before .before .before .all-within2 .ensures) ∙ not-false _ (c .before .before .before .before .if3 .left))
-    (subst (Table (a .w) (a .h) (a .target .now) (a .canvas .now)) (sym (c .before .before .build-rows .ensures)) (built (a .w) (a .h) (a .target .now) (a .canvas .now) (a .table .now) (sizes (a .target .now) (a .canvas .now) (a .w) (a .h) (a .table .now) e .places)))
+    (subst (Table (a .w) (a .h) (a .target .now) (a .canvas .now)) (sym (c .before .before .rebuild-rows .ensures)) (built (a .w) (a .h) (a .target .now) (a .canvas .now) (a .table .now) (sizes (a .target .now) (a .canvas .now) (a .w) (a .h) (a .table .now) e .places)))
 
 pub build-spec : {M : Type 1} → statement M
 build-spec =
@@ -60,6 +60,6 @@ build-spec =
     returns-2
     all-within-requires-2
     returns-3
-    build-rows-requires
+    rebuild-rows-requires
     same-length
     returns-4)

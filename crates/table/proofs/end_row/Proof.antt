@@ -1,3 +1,4 @@
+-- `end_row`: a negative ymax, one within the rows, one past them.
 use mir.Facts.{toZ-ofZ}
 use Rattle.table.specs.RangeLaws.{casts, end-negative, end-inside, end-past}
 use native.Mathlib.Omega.{arith}

@@ -1,3 +1,4 @@
+-- `first_row`: a negative ymin, one before hi, one past it.
 use mir.Facts.{toZ-ofZ}
 use Rattle.table.specs.RangeLaws.{casts, first-negative, first-inside, first-past}
 use native.Mathlib.Omega.{arith}

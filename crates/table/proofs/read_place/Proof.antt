@@ -1,3 +1,4 @@
+-- `read_place`: each series is read at its lane.
 use mathlib.Core.Path.{_∙_}
 use Rattle.laws.specs.RowSums.{target-values, target-squares, canvas-values, canvas-squares, products}
 use Rattle.table.specs.Layout.{ofTarget, ofCanvas, placeOf}

@@ -1,3 +1,4 @@
+-- `refused`: each test in the order of the numbers.
 use mathlib.Core.Path.{sym, _∙_}
 use Rattle.refusal.specs.RefusalLaws.{sized}
 use Rattle.table.specs.TestLaws.{sizes-after}

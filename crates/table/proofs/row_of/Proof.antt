@@ -1,3 +1,4 @@
+-- `row_of`: the part lent is row y.
 use Rattle.laws.specs.RowLaws.{part-cut}
 use borrow.Author.Needs.{needs}
 use Rattle.table.proofs.row_of.Statement.{statement}

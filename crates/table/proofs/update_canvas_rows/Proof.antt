@@ -1,3 +1,4 @@
+-- `update_canvas_rows`: the two ends name the rows of the rule (`updated`).
 use mir.Facts.{toZ-ofZ}
 use mathlib.Core.Path.{sym, _∙_, subst}
 use Rattle.table.specs.Table.{Updated, updateRefusal}
@@ -21,9 +22,9 @@ end-row-requires c κs = search needs
 first-row-requires : tie.Need-first-row-requires
 first-row-requires c κs = search needs
 
-update-rows-requires : tie.Need-update-rows-requires
+rebuild-rows-requires : tie.Need-rebuild-rows-requires
 unfolding updateRefusal
-update-rows-requires c κs =
+rebuild-rows-requires c κs =
     let a = c .before .before .before .before .before .before .before .before .args in
     (sizes (a .target .now) (a .canvas .now) (a .w) (a .h) (a .table .now) (sym (c .before .before .before .before .refused .ensures) ∙ c .before .before .before .if1 .left), c .before .first-row .ensures .0, c .before .before .end-row .ensures .0)
 
@@ -39,7 +40,7 @@ returns-2 c =
     let hi = c .before .before .before .before .before .end-row .ensures in
     let lo = c .before .before .before .before .first-row .ensures in
     update-done (a .target .now) (a .canvas .now) (a .w) (a .h) (a .table .now) (a .ymin) (a .ymax) _ e
-    (subst (Updated (a .w) (a .h) (a .target .now) (a .canvas .now) (a .ymin) (a .ymax) (a .table .now)) (sym (c .before .before .update-rows .ensures))
+    (subst (Updated (a .w) (a .h) (a .target .now) (a .canvas .now) (a .ymin) (a .ymax) (a .table .now)) (sym (c .before .before .rebuild-rows .ensures))
     (updated (a .w) (a .h) (a .target .now) (a .canvas .now) (a .table .now) (sizes (a .target .now) (a .canvas .now) (a .w) (a .h) (a .table .now) e .places) _ _ (lo .0) (hi .0) (a .ymin) (a .ymax)
     (λ y l. rw (toZ-ofZ, st .fits .ymin) at (lo .1 y l)) (λ y l. rw (toZ-ofZ, st .fits .ymax) at (hi .1 y l))))
 
@@ -51,6 +52,6 @@ update-canvas-rows-spec =
     returns
     end-row-requires
     first-row-requires
-    update-rows-requires
+    rebuild-rows-requires
     same-length
     returns-2)

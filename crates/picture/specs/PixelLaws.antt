@@ -1,0 +1,225 @@
+-- Laws: the steps of fill, mean and total; the difference of two values within 0..1 is a number; a filled picture, a mean; each promise has one answer.
+use mathlib.Core.Path.{_≡_, refl, sym, ap, _∙_}
+use mathlib.Core.Bool.{Bool, true, false, not, _&&_, _||_, cond, Bool·beq, true≢false}
+use mathlib.Core.List.{List}
+use Prim.Native.Nat.{ℕ, zero, suc, _+_, _-_, _*_, _≤_, _<_}
+use native.Mathlib.Nat.{mul-le-mul}
+use native.Mathlib.Omega.{arith}
+use lib.Dec.{T, ltb, eqb}
+use lib.ListN.{length, getD, take, set, length-set}
+use lib.IntN.{pos}
+use lib.Ieee.{Float, nan, inf, fin, Format, binary64, round, sum, add, sub, neg, ofInt}
+use lib.Ieee.Fits.{and-l, and-r}
+use Rattle.laws.specs.Answer.{Answer}
+use Rattle.laws.specs.Bools.{or-left, or-right}
+use Rattle.laws.specs.Before.{before}
+use Rattle.laws.specs.BeforeLaws.{before-none, before-more}
+use Rattle.laws.specs.EveryLaws.{every-each}
+use Rattle.laws.specs.F64.{_⊕_, _⊘_}
+use Rattle.laws.specs.Fill.{agree-more, agree-all}
+use Rattle.laws.specs.Index.{index-mod}
+use Rattle.laws.specs.Pictures.{plain, channelOf}
+use Rattle.laws.specs.PictureLaws.{length-list, list-number, list-every}
+use Rattle.float.specs.Within.{nought, number, within, allWithin}
+use Rattle.float.specs.Narrowed.{narrowed}
+use Rattle.float.specs.WithinLaws.{Says, says, within-number}
+use Rattle.float.specs.Numbers.{round-no-nan}
+use Rattle.refusal.specs.Refusals.{Sized, badSize}
+use Rattle.refusal.specs.Lengths.{badPicture}
+use Rattle.refusal.specs.LengthLaws.{picture-length}
+use Rattle.refusal.specs.RefusalLaws.{sized}
+use Rattle.refusal.specs.ThreeTests.{passed}
+use Rattle.picture.specs.declared.Colour.{Colour}
+use Rattle.picture.specs.declared.Mean.{Mean}
+use Rattle.picture.specs.declared.Mean.the-variants as mean
+use Rattle.picture.specs.declared.Total.{Total}
+use Rattle.picture.specs.declared.Total.the-variants as total
+use Rattle.picture.specs.Pixels.{badColour, BadColourSays, filled, fillRefusal, FillSays, FilledCanvasSays, channelSum, channelMean, meanOf, meanRefusal, meanAnswer, MeanRgbSays, squaredDifference, totalOf, totalRefusal, totalAnswer, SseTotalSays, TotalAnySays, TotalWithinSays}
+
+-- ---- each promise has one answer
+pub BadColourSays-unique : (red green blue : Float) (r s : Bool) → BadColourSays red green blue r → BadColourSays red green blue s → r ≡ s
+BadColourSays-unique red green blue r s p q = p ∙ sym q
+
+pub FillSays-unique : (w h : ℕ) (red green blue : Float) (new also : List Float) → FillSays w h red green blue new → FillSays w h red green blue also → new ≡ also
+FillSays-unique w h red green blue new also p q = p ∙ sym q
+
+pub FilledCanvasSays-unique : (w h : ℕ) (red green blue : Float) (old : List Float) (r s : ℕ) (new also : List Float)
+    → FilledCanvasSays w h red green blue old r new → FilledCanvasSays w h red green blue old s also → (r ≡ s) × (new ≡ also)
+FilledCanvasSays-unique w h red green blue old r s new also p q =
+    let e = p .number ∙ sym (q .number) in
+    (e, p .left ∙ ap (λ (k : ℕ). cond (eqb k 0) (filled w h red green blue) old) e ∙ sym (q .left))
+
+-- an answer's number and value, and whether it is done, give the answer back
+mean-back : Answer Colour → Mean
+mean-back a = cond (a .done) (mean.Done (a .value)) (mean.Refused (a .number))
+
+mean-same : (r : Mean) → mean-back (meanAnswer r) ≡ r
+unfolding mean-back
+mean-same (mean.Done c) = refl
+mean-same (mean.Refused k) = refl
+
+pub MeanRgbSays-unique : (w h : ℕ) (target : List Float) (r s : Mean) → MeanRgbSays w h target r → MeanRgbSays w h target s → r ≡ s
+MeanRgbSays-unique w h target r s p q = sym (mean-same r) ∙ ap mean-back (p ∙ sym q) ∙ mean-same s
+
+total-back : Answer Float → Total
+total-back a = cond (a .done) (total.Done (a .value)) (total.Refused (a .number))
+
+total-same : (r : Total) → total-back (totalAnswer r) ≡ r
+unfolding total-back
+total-same (total.Done t) = refl
+total-same (total.Refused k) = refl
+
+pub SseTotalSays-unique : (w h : ℕ) (target canvas : List Float) (r s : Total) → SseTotalSays w h target canvas r → SseTotalSays w h target canvas s → r ≡ s
+SseTotalSays-unique w h target canvas r s p q = sym (total-same r) ∙ ap total-back (p ∙ sym q) ∙ total-same s
+
+pub TotalAnySays-unique : (target canvas : List Float) (r s : Float) → TotalAnySays target canvas r → TotalAnySays target canvas s → r ≡ s
+TotalAnySays-unique target canvas r s p q = p ∙ sym q
+
+pub TotalWithinSays-unique : (target canvas : List Float) (r s : Float) → TotalWithinSays target canvas r → TotalWithinSays target canvas s → r ≡ s
+TotalWithinSays-unique target canvas r s p q = p ∙ sym q
+
+not-not : (b : Bool) → not b ≡ false → T b
+not-not true e = tt
+not-not false e = absurd (true≢false e)
+
+-- ---- a colour that passed its test
+pub colour-within : (red green blue : Float) → badColour red green blue ≡ false → (ch : ℕ) → T (within (channelOf red green blue ch))
+unfolding badColour
+colour-within red green blue e = by
+  where
+    three : T (within red && within green && within blue)
+    three = not-not (within red && within green && within blue) e
+
+    by : (ch : ℕ) → T (within (channelOf red green blue ch))
+    by zero = and-l (within red) (within green) (and-l (within red && within green) (within blue) three)
+    by (suc zero) = and-r (within red) (within green) (and-l (within red && within green) (within blue) three)
+    by (suc (suc ch)) = and-r (within red && within green) (within blue) three
+
+-- ---- fill: pixel i is written
+module _ (w h : ℕ) (red green blue : Float) where
+  pub length-filled : length (filled w h red green blue) ≡ h * w * 3
+  length-filled = length-list w h (plain red green blue)
+
+  filled-at : (i ch : ℕ) → i < h * w → ch < 3 → getD (filled w h red green blue) (i * 3 + ch) nan ≡ channelOf red green blue ch
+  filled-at i ch l c =
+      list-number w h (plain red green blue) (i * 3 + ch) nan (omega arith)
+      ∙ ap (channelOf red green blue) (index-mod 3 i ch c)
+
+  pub fill-more : (l : List Float) (i : ℕ) → length l ≡ h * w * 3 → i < h * w → take (i * 3) l ≡ take (i * 3) (filled w h red green blue)
+      → take ((i + 1) * 3) (set (set (set l (i * 3) red) (i * 3 + 1) green) (i * 3 + 2) blue) ≡ take ((i + 1) * 3) (filled w h red green blue)
+  fill-more l i e k p =
+      let s = filled w h red green blue in
+      let z : i * 3 ≡ i * 3 + 0 = omega arith in
+      let t : (i + 1) * 3 ≡ i * 3 + 2 + 1 = omega arith in
+      let o : i * 3 + 2 ≡ i * 3 + 1 + 1 = omega arith in
+      let l1 = set l (i * 3) red in
+      let l2 = set l1 (i * 3 + 1) green in
+      let e1 : length l1 ≡ length s = length-set l (i * 3) red ∙ e ∙ sym length-filled in
+      let e2 : length l2 ≡ length s = length-set l1 (i * 3 + 1) green ∙ e1 in
+      let a = agree-more l s (i * 3) nan red (e ∙ sym length-filled) (omega arith) p (sym (ap (λ (j : ℕ). getD s j nan) z ∙ filled-at i 0 k (omega arith))) in
+      let b = agree-more l1 s (i * 3 + 1) nan green e1 (omega (arith, length-set l (i * 3) red)) a (sym (filled-at i 1 k (omega arith))) in
+      let b' : take (i * 3 + 2) l2 ≡ take (i * 3 + 2) s = rw o b in
+      rw t (agree-more l2 s (i * 3 + 2) nan blue e2 (omega (arith, length-set l1 (i * 3 + 1) green, length-set l (i * 3) red)) b' (sym (filled-at i 2 k (omega arith))))
+
+  pub fill-all : (l : List Float) (i : ℕ) → length l ≡ h * w * 3 → h * w ≤ i → take (i * 3) l ≡ take (i * 3) (filled w h red green blue) → l ≡ filled w h red green blue
+  fill-all l i e k p = agree-all l (filled w h red green blue) (i * 3) (e ∙ sym length-filled) (omega (arith, length-filled)) p
+
+  -- a colour within 0..1 fills a picture within 0..1
+  pub filled-within : badColour red green blue ≡ false → T (allWithin (filled w h red green blue))
+  filled-within e = list-every w h within (plain red green blue) nan (λ ch y x c l m. colour-within red green blue e ch)
+
+-- ---- mean: pixel i is added
+pub sum-none : (target : List Float) (ch : ℕ) → nought ≡ channelSum target ch 0
+unfolding channelSum
+sum-none target ch = sym (before-none nought _⊕_ (λ i. getD target (i * 3 + ch) nan))
+
+pub sum-more : (target : List Float) (ch i j : ℕ) (s v : Float) → j ≡ i * 3 + ch → s ≡ channelSum target ch i → v ≡ getD target j nan → s ⊕ v ≡ channelSum target ch (i + 1)
+unfolding channelSum
+sum-more target ch i j s v e p q =
+    ap (λ (t : Float). t ⊕ v) p
+    ∙ ap (λ (t : Float). before nought _⊕_ (λ k. getD target (k * 3 + ch) nan) i ⊕ t) (q ∙ ap (λ (k : ℕ). getD target k nan) e)
+    ∙ before-more nought _⊕_ (λ k. getD target (k * 3 + ch) nan) i
+
+pub mean-all : (w h : ℕ) (target : List Float) (n : ℕ) (red green blue r g b : Float) → n ≡ h * w
+    → red ≡ channelSum target 0 n → green ≡ channelSum target 1 n → blue ≡ channelSum target 2 n
+    → r ≡ narrowed (red ⊘ ofInt binary64 (pos n)) → g ≡ narrowed (green ⊘ ofInt binary64 (pos n)) → b ≡ narrowed (blue ⊘ ofInt binary64 (pos n))
+    → _≡_ {A = Colour} (record { red = r; green = g; blue = b }) (meanOf w h target)
+unfolding meanOf channelMean
+mean-all w h target n red green blue r g b e p q s u v z = simp (u, v, z, p, q, s, e)
+
+pub few-pixels : (w h : ℕ) → Sized w h → h * w ≤ 65536
+few-pixels w h s = mul-le-mul (s .h-high) (s .w-high)
+
+-- ---- total: number i is added
+unfoldable pub totalTo : List Float → List Float → ℕ → Float
+totalTo target canvas n = before nought _⊕_ (λ i. squaredDifference (getD target i nan) (getD canvas i nan)) n
+
+pub total-none : (target canvas : List Float) → nought ≡ totalTo target canvas 0
+unfolding totalTo
+total-none target canvas = sym (before-none nought _⊕_ (λ i. squaredDifference (getD target i nan) (getD canvas i nan)))
+
+pub total-more : (target canvas : List Float) (i : ℕ) (s v : Float) → s ≡ totalTo target canvas i → v ≡ squaredDifference (getD target i nan) (getD canvas i nan) → s ⊕ v ≡ totalTo target canvas (i + 1)
+unfolding totalTo
+total-more target canvas i s v p q =
+    ap (λ (t : Float). t ⊕ v) p
+    ∙ ap (λ (t : Float). totalTo target canvas i ⊕ t) q
+    ∙ before-more nought _⊕_ (λ k. squaredDifference (getD target k nan) (getD canvas k nan)) i
+
+pub total-all : (target canvas : List Float) (n : ℕ) (s : Float) → n ≡ length target → s ≡ totalTo target canvas n → s ≡ totalOf target canvas
+unfolding totalTo totalOf
+total-all target canvas n s e p = p ∙ ap (totalTo target canvas) e
+
+-- ---- the difference of two values within 0..1 is a number
+either : (k : Bool) (x y : Float) → T (number x) → T (number y) → T (number (cond k x y))
+either true x y p q = p
+either false x y p q = q
+
+sum-number : (f : Format) (s : Bool) (a : ℕ) (t : Bool) (b c : ℕ) → T (number (sum f s a t b c))
+unfolding sum
+sum-number f s a t b c =
+    either (Bool·beq s t) (round f s (a + b) c) (cond (ltb a b) (round f t (b - a) c) (round f (s && ltb b a) (a - b) c))
+    (round-no-nan f s (a + b) c)
+    (either (ltb a b) (round f t (b - a) c) (round f (s && ltb b a) (a - b) c) (round-no-nan f t (b - a) c) (round-no-nan f (s && ltb b a) (a - b) c))
+
+pub difference-number : (f : Format) (x y : Float) → T (within x) → T (within y) → T (number (sub f x y))
+unfolding sub add neg
+difference-number f x y h k = go x y (says x h) (says y k)
+  where
+    go : (x y : Float) → Says x → Says y → T (number (sub f x y))
+    go nan y p q = absurd p
+    go (inf s) y p q = absurd p
+    go (fin s m e) nan p q = absurd q
+    go (fin s m e) (inf t) p q = absurd q
+    go (fin s m e) (fin t n d) p q = sum-number f s _ (not t) _ _
+
+-- an element of a picture within 0..1
+pub within-at : (xs : List Float) (k : ℕ) → T (allWithin xs) → k < length xs → T (within (getD xs k nan))
+within-at xs k h l = every-each within xs k nan h l
+
+pub number-at : (xs : List Float) (k : ℕ) → T (allWithin xs) → k < length xs → T (number (getD xs k nan))
+number-at xs k h l = within-number (getD xs k nan) (within-at xs k h l)
+
+-- ---- what 0 gives: every test was passed
+pub fill-passed : (w h : ℕ) (red green blue : Float) (n : ℕ) → fillRefusal w h red green blue n ≡ 0 → Sized w h × (n ≡ h * w * 3) × (badColour red green blue ≡ false)
+unfolding fillRefusal
+fill-passed w h red green blue n e =
+    let p = passed (badSize w h) (badPicture w h n) (badColour red green blue) 6 (omega arith) e in
+    (sized w h (p .0), picture-length w h n (p .1), p .2)
+
+pub mean-passed : (w h : ℕ) (target : List Float) → meanRefusal w h target ≡ 0 → Sized w h × (length target ≡ h * w * 3) × T (allWithin target)
+unfolding meanRefusal
+mean-passed w h target e =
+    let p = passed (badSize w h) (badPicture w h (length target)) (not (allWithin target)) 7 (omega arith) e in
+    (sized w h (p .0), picture-length w h (length target) (p .1), not-not (allWithin target) (p .2))
+
+pub total-passed : (w h : ℕ) (target canvas : List Float) → totalRefusal w h target canvas ≡ 0
+    → Sized w h × (length target ≡ h * w * 3) × (length canvas ≡ h * w * 3) × T (allWithin target) × T (allWithin canvas)
+unfolding totalRefusal
+total-passed w h target canvas e =
+    let p = passed (badSize w h) (badPicture w h (length target) || badPicture w h (length canvas)) (not (allWithin target) || not (allWithin canvas)) 7 (omega arith) e in (
+      sized w h (p .0),
+      picture-length w h (length target) (or-left (badPicture w h (length target)) (badPicture w h (length canvas)) (p .1)),
+      picture-length w h (length canvas) (or-right (badPicture w h (length target)) (badPicture w h (length canvas)) (p .1)),
+      not-not (allWithin target) (or-left (not (allWithin target)) (not (allWithin canvas)) (p .2)),
+      not-not (allWithin canvas) (or-right (not (allWithin target)) (not (allWithin canvas)) (p .2)),
+    )

@@ -1,0 +1,283 @@
+// Pictures: fill, mean, total, and shapes blended into them.
+ghost use mathlib.Core.Path.{_≡_};
+ghost use mathlib.Core.Bool.{false};
+ghost use mathlib.Core.List.{[], _∷_};
+ghost use Prim.Native.Nat.{_+_, _*_, _^_, _<_, _≤_};
+ghost use lib.Dec.{T};
+ghost use lib.IntN.{pos};
+ghost use lib.Ieee.{binary64, ofInt};
+ghost use lib.ListN.{length};
+ghost use Rattle.laws.specs.F32.{_⊟_};
+ghost use Rattle.laws.specs.F64.{_⊘_};
+ghost use Rattle.laws.specs.Strokes.{RunsWithin};
+ghost use Rattle.float.specs.Narrowed.{narrowed};
+ghost use Rattle.float.specs.Within.{number, within, allWithin};
+ghost use Rattle.refusal.specs.Refusals.{Sized, lowest, sizeIf, lengthIf, badSize};
+ghost use Rattle.refusal.specs.Lengths.{badPicture};
+ghost use Rattle.cover.specs.Cover.{badPlaces};
+ghost use Rattle.picture.specs.Painting.{BlendSays};
+ghost use Rattle.picture.specs.Strokes.{brushedPart, brushedRows, RowsWithin};
+ghost use Rattle.picture.specs.Pixels.{BadColourSays, FillSays, FilledCanvasSays, fillRefusal, MeanRgbSays, meanOf, meanRefusal, SseTotalSays, squaredDifference, totalRefusal, TotalAnySays, TotalWithinSays};
+use brush::Brush;
+use cover::Kind;
+use cover::rows::Rows;
+
+pub struct Colour {
+    pub red: f32,
+    pub green: f32,
+    pub blue: f32,
+}
+
+pub enum Mean {
+    Done(Colour),
+    Refused(u8),
+}
+
+pub enum Total {
+    Done(f64),
+    Refused(u8),
+}
+
+// A colour channel is not within 0..1.
+pub fn bad_colour(red: f32, green: f32, blue: f32) -> bool
+    ensures { λ r. ⌜ BadColourSays red green blue r ⌝ }
+{
+    !(float::within(red) & float::within(green) & float::within(blue))
+}
+
+// Size, then length.
+fn refused(w: usize, h: usize, n: usize) -> u8
+    ensures { λ r. ⌜ r ≡ lowest (sizeIf (badSize w h) ∷ lengthIf (badPicture w h n) ∷ []) ⌝ }
+{
+    if refusal::bad_size(w, h) {
+        return refusal::SIZE;
+    }
+    if refusal::bad_picture(w, h, n) {
+        return refusal::LENGTH;
+    }
+    0
+}
+
+// ---- fill
+
+// Every pixel gets the colour. Refusals: 1 size, 2 length, 6 colour; 0 is done.
+pub fn filled_canvas(w: usize, h: usize, red: f32, green: f32, blue: f32, canvas: &mut [f32]) -> u8
+    ensures { λ r. ⌜ FilledCanvasSays w h red green blue (now (canvas .entry)) r (now (canvas .exit)) ⌝ }
+{
+    let number = fill_refusal(w, h, red, green, blue, canvas.len());
+    if number == 0 {
+        fill(w, h, red, green, blue, canvas);
+    }
+    number
+}
+
+fn fill_refusal(w: usize, h: usize, red: f32, green: f32, blue: f32, n: usize) -> u8
+    ensures { λ r. ⌜ r ≡ fillRefusal w h red green blue n ⌝ }
+{
+    let number = refused(w, h, n);
+    if number != 0 {
+        return number;
+    }
+    if bad_colour(red, green, blue) {
+        return refusal::COLOUR;
+    }
+    0
+}
+
+// The same without the tests, for any colour bits.
+pub fn fill(w: usize, h: usize, red: f32, green: f32, blue: f32, canvas: &mut [f32])
+    requires { ⌜ length (now canvas) ≡ h * w * 3 ⌝ }
+    ensures { λ _. ⌜ FillSays w h red green blue (now (canvas .exit)) ⌝ }
+{
+    let n = h * w;
+    for i in 0..n {
+        canvas[i * 3] = red;
+        canvas[i * 3 + 1] = green;
+        canvas[i * 3 + 2] = blue;
+    }
+}
+
+// ---- mean
+
+// The mean of each channel, summed in f64 in the pixels' order. Refusals: 1 size, 2 length, 7 pixel.
+pub fn mean_rgb(w: usize, h: usize, target: &[f32]) -> Mean
+    ensures { λ r. ⌜ MeanRgbSays w h (now (target .entry)) r ⌝ }
+{
+    let number = mean_refusal(w, h, target);
+    if number == 0 {
+        Mean::Done(mean_of(w, h, target))
+    } else {
+        Mean::Refused(number)
+    }
+}
+
+fn mean_refusal(w: usize, h: usize, target: &[f32]) -> u8
+    ensures { λ r. ⌜ r ≡ meanRefusal w h (now (target .entry)) ⌝ }
+{
+    let number = refused(w, h, target.len());
+    if number != 0 {
+        return number;
+    }
+    if !float::all_within(target) {
+        return refusal::PIXEL;
+    }
+    0
+}
+
+fn mean_of(w: usize, h: usize, target: &[f32]) -> Colour
+    requires { ⌜ Sized w h × (length (now target) ≡ h * w * 3) ⌝ }
+    requires { ⌜ T (allWithin (now target)) ⌝ }
+    ensures { λ r. ⌜ r ≡ meanOf w h (now (target .entry)) ⌝ }
+{
+    let n = h * w;
+    let mut red = 0.0f64;
+    let mut green = 0.0f64;
+    let mut blue = 0.0f64;
+    for i in 0..n {
+        red = red + float::widen_number(target[i * 3]);
+        green = green + float::widen_number(target[i * 3 + 1]);
+        blue = blue + float::widen_number(target[i * 3 + 2]);
+    }
+    Colour {
+        red: share(red, n),
+        green: share(green, n),
+        blue: share(blue, n),
+    }
+}
+
+fn share(sum: f64, n: usize) -> f32
+    requires { ⌜ n < 2 ^ 32 ⌝ }
+    ensures { λ r. ⌜ r ≡ narrowed (sum ⊘ ofInt binary64 (pos n)) ⌝ }
+{
+    float::narrow(sum / (n as u32) as f64)
+}
+
+// ---- total
+
+// The squared differences of two pictures, summed in f64 in slice order. Refusals: 1 size, 2 length, 7 pixel.
+pub fn sse_total(w: usize, h: usize, target: &[f32], canvas: &[f32]) -> Total
+    ensures { λ r. ⌜ SseTotalSays w h (now (target .entry)) (now (canvas .entry)) r ⌝ }
+{
+    let number = total_refusal(w, h, target, canvas);
+    if number == 0 {
+        Total::Done(total_within(target, canvas))
+    } else {
+        Total::Refused(number)
+    }
+}
+
+fn total_refusal(w: usize, h: usize, target: &[f32], canvas: &[f32]) -> u8
+    ensures { λ r. ⌜ r ≡ totalRefusal w h (now (target .entry)) (now (canvas .entry)) ⌝ }
+{
+    let number = refused(w, h, target.len());
+    if number != 0 {
+        return number;
+    }
+    let number = refused(w, h, canvas.len());
+    if number != 0 {
+        return number;
+    }
+    if !float::all_within(target) | !float::all_within(canvas) {
+        return refusal::PIXEL;
+    }
+    0
+}
+
+// The same without the tests, for pictures within 0..1.
+pub fn total_within(target: &[f32], canvas: &[f32]) -> f64
+    requires { ⌜ length (now target) ≡ length (now canvas) ⌝ }
+    requires { ⌜ T (allWithin (now target)) × T (allWithin (now canvas)) ⌝ }
+    ensures { λ r. ⌜ TotalWithinSays (now (target .entry)) (now (canvas .entry)) r ⌝ }
+{
+    let n = target.len();
+    let mut sum = 0.0f64;
+    for i in 0..n {
+        sum = sum + squared(target[i], canvas[i]);
+    }
+    sum
+}
+
+fn squared(t: f32, c: f32) -> f64
+    requires { ⌜ T (within t) × T (within c) ⌝ }
+    ensures { λ r. ⌜ r ≡ squaredDifference t c ⌝ }
+{
+    let d = float::widen_number(t - c);
+    d * d
+}
+
+// And for any bits.
+pub fn total_any(target: &[f32], canvas: &[f32]) -> f64
+    requires { ⌜ length (now target) ≡ length (now canvas) ⌝ }
+    ensures { λ r. ⌜ TotalAnySays (now (target .entry)) (now (canvas .entry)) r ⌝ }
+{
+    let n = target.len();
+    let mut sum = 0.0f64;
+    for i in 0..n {
+        sum = sum + squared_any(target[i], canvas[i]);
+    }
+    sum
+}
+
+fn squared_any(t: f32, c: f32) -> f64
+    ensures { λ r. ⌜ r ≡ squaredDifference t c ⌝ }
+{
+    let d = difference_any(t, c);
+    d * d
+}
+
+// In f32, then widened.
+fn difference_any(t: f32, c: f32) -> f64
+    ensures { λ r. ⌜ r ≡ t ⊟ c ⌝ }
+{
+    float::widen(t - c)
+}
+
+// ---- painting
+
+// Every covered channel becomes m * old + a * colour, m = 1 - a, in f32; all others stay. For any picture, opacity and
+// colour bits. Sizes, places and the picture's length were tested.
+pub fn blend(
+    kind: Kind,
+    opacity: f32,
+    red: f32,
+    green: f32,
+    blue: f32,
+    w: usize,
+    h: usize,
+    canvas: &mut [f32],
+)
+    requires sizes { ⌜ Sized w h ⌝ }
+    requires places { ⌜ badPlaces kind ≡ false ⌝ }
+    requires picture { ⌜ length (now canvas) ≡ h * w * 3 ⌝ }
+    ensures { λ _. ⌜ BlendSays kind opacity red green blue w h (now (canvas .entry)) (now (canvas .exit)) ⌝ }
+{
+    let mut runs = [0u16; 512];
+    cover::runs(kind, w, h, &mut runs);
+    let rows = cover::rows::reach_rows(kind, h);
+    let brush = brush::brush_of(opacity, red, green, blue);
+    blend_rows(brush, &runs, rows, w, h, canvas);
+}
+
+fn blend_rows(brush: Brush, runs: &[u16; 512], rows: Rows, w: usize, h: usize, canvas: &mut [f32])
+    requires sizes { ⌜ Sized w h ⌝ }
+    requires rows { ⌜ RowsWithin h rows ⌝ }
+    requires runs { ⌜ RunsWithin w h (now runs) ⌝ }
+    requires picture { ⌜ length (now canvas) ≡ h * w * 3 ⌝ }
+    ensures { λ _. ⌜ now (canvas .exit) ≡ brushedRows brush (now (runs .entry)) (rows .top) (rows .bottom) w h (now (canvas .entry)) ⌝ }
+{
+    for y in rows.top..rows.bottom {
+        let left = runs[y * 2] as usize;
+        let right = runs[y * 2 + 1] as usize;
+        blend_row(brush, left, right, y * w, canvas);
+    }
+}
+
+// Pixels left up to right of the row that begins with pixel `start`.
+fn blend_row(brush: Brush, left: usize, right: usize, start: usize, canvas: &mut [f32])
+    requires { ⌜ (left ≤ right) × ((start + right) * 3 ≤ length (now canvas)) ⌝ }
+    ensures { λ _. ⌜ now (canvas .exit) ≡ brushedPart brush ((start + left) * 3) ((start + right) * 3) (now (canvas .entry)) ⌝ }
+{
+    let a = (start + left) * 3;
+    let e = (start + right) * 3;
+    brush::blend_run(brush, right - left, &mut canvas[a..e]);
+}

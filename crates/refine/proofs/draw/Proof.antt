@@ -1,0 +1,41 @@
+-- What `fill` and `paint_part` ensure, one after the other.
+use borrow.Author.Needs.{needs}
+use mathlib.Core.Path.{_≡_, sym, ap, subst, _∙_}
+use mathlib.Core.List.{List}
+use native.Mathlib.Omega.{arith}
+use lib.Dec.{T}
+use lib.Ieee.{Float}
+use lib.Seq.{slice}
+use Rattle.float.specs.Within.{allWithin}
+use Rattle.picture.specs.PixelLaws.{filled-within}
+use Rattle.refine.specs.Refinement.{paintedOn}
+use Rattle.refine.specs.Scenes.{shapePainted}
+use Rattle.refine.proofs.draw.Statement.{statement}
+use Rattle.refine.proofs.draw.Tie as tie
+
+fill-requires : tie.Need-fill-requires
+fill-requires c κs = c .before .before .pre .2
+
+paint-part-requires : tie.Need-paint-part-requires
+paint-part-requires c κs =
+    let s = c .before .before .before .before .before .before in
+    let a = s .args in
+    let f = c .before .before .before .fill in (
+      s .pre .0,
+      omega arith,
+      omega arith,
+      f .kept .1 .1 .1 .1 .1 .0 ∙ s .pre .2,
+      subst (λ (p : List Float). T (allWithin p)) (sym (f .ensures)) (filled-within (a .w) (a .h) (a .red) (a .green) (a .blue) (s .pre .1)),
+    )
+
+same-length : tie.Need-same-length
+same-length c = search needs
+
+returns : tie.Need-returns
+returns c =
+    let a = c .before .before .before .before .before .before .before .before .before .args in
+    let p = c .before .before .paint-part .ensures in
+    (p .0 ∙ ap (λ (q : List Float). paintedOn (shapePainted (a .w) (a .h)) q (slice 0 (a .list .count) (a .list .items))) (c .before .before .before .before .before .before .fill .ensures), p .1)
+
+pub draw-spec : {M : Type 1} → statement M
+draw-spec = tie.close (tie.spec fill-requires paint-part-requires same-length returns)

@@ -1,0 +1,103 @@
+-- The loop carries the part painted so far; a shape below the count fits.
+use borrow.Author.Needs.{needs}
+use mathlib.Core.Path.{_≡_, sym, ap, subst, _∙_}
+use Prim.Native.Nat.{ℕ, _≤_, _<_, _-_, _+_}
+use Rattle.shapes.specs.declared.Shape.{Shape}
+use lib.Dec.{T}
+use lib.ListN.{length, take, getD, length-map}
+use lib.Seq.{slice, getD-take, length-take-le}
+use Rattle.laws.specs.EveryLaws.{every-each}
+use Rattle.float.specs.Within.{allWithin}
+use Rattle.shapes.specs.Blank.{blank}
+use Rattle.shapes.specs.Ranges.{fits}
+use Rattle.refine.specs.Refinement.{paintedOn}
+use Rattle.refine.specs.Scenes.{shapePainted}
+use Rattle.refine.specs.PartLaws.{part-none, part-more}
+use native.Mathlib.Omega.{arith}
+use Rattle.refine.proofs.paint_part.Statement.{statement}
+use Rattle.refine.proofs.paint_part.Tie as tie
+
+abbrev Inv-loop : tie.InvT-loop
+Inv-loop w h from to canvas₀ s i₀ canvas i =
+    (from ≤ i) × (i ≤ to) × (length canvas ≡ length canvas₀) × (canvas ≡ paintedOn (shapePainted w h) canvas₀ (slice from i (s .items))) × T (allWithin canvas)
+
+abbrev μ-loop : tie.MeasureT-loop
+μ-loop w h from to canvas₀ s i₀ canvas i = to - i
+
+loop-holds : tie.Need-loop-holds Inv-loop μ-loop
+loop-holds c =
+    let a = c .before .args in
+    (search needs, search needs, search needs, part-none (shapePainted (a .w) (a .h)) (a .canvas .now) (a .from) (a .t3 .items), c .before .pre .4)
+
+mul-x : tie.Need-mul-x Inv-loop μ-loop
+mul-x c = search needs
+
+element-copy-out-x : tie.Need-element-copy-out-x Inv-loop μ-loop
+element-copy-out-x c = search needs
+
+-- an array's length is among what owning the parameter tells
+len : (s : tie.Start Inv-loop μ-loop) → length (s .args .t3 .items) ≡ 64
+len s = simp length-map at (s .good .1 .1 .0 .1 .1 .0 .1 .0 .1)
+
+-- a shape of the list fits
+placed : (s : tie.Start Inv-loop μ-loop) (i : ℕ) → i < s .args .t3 .count → T (fits (getD (s .args .t3 .items) i blank))
+placed s i h =
+    let items = s .args .t3 .items in
+    let n = s .args .t3 .count in
+    subst (λ (x : Shape). T (fits x)) (getD-take n items i blank h)
+    (every-each fits (take n items) i blank (s .pre .0 .fitting) (omega (arith, length-take-le n items (omega (arith, len s)))))
+
+paint-requires : tie.Need-paint-requires Inv-loop μ-loop
+paint-requires c κs =
+    let l = c .before .before .before in
+    let s = l .before .before in (
+      search needs,
+      l .loop .inv .2 ∙ s .pre .3,
+      placed s (l .loop .i) (omega arith),
+      l .loop .inv .4,
+    )
+
+add-i : tie.Need-add-i Inv-loop μ-loop
+add-i c = search needs
+
+loop-less : tie.Need-loop-less Inv-loop μ-loop
+loop-less c = search needs
+
+loop-again : tie.Need-loop-again Inv-loop μ-loop
+loop-again c =
+    let l = c .before .before .before .before .before .before in
+    let s = l .before .before in
+    let a = s .args in (
+      search needs,
+      search needs,
+      c .before .before .paint .kept .1 .1 .1 .0 ∙ l .loop .inv .2,
+      c .before .before .paint .ensures .0
+          ∙ part-more (shapePainted (a .w) (a .h)) (a .canvas .now) (l .loop .canvas) (a .from) (l .loop .i) (a .t3 .items) blank (l .loop .inv .0) (omega (arith, len s)) (l .loop .inv .3),
+      c .before .before .paint .ensures .1,
+    )
+
+same-length : tie.Need-same-length Inv-loop μ-loop
+same-length c = search needs
+
+returns : tie.Need-returns Inv-loop μ-loop
+returns c =
+    let l = c .before in
+    let a = l .before .before .args in
+    let e : l .loop .i ≡ a .to = omega arith in
+    (l .loop .inv .3 ∙ ap (λ (k : ℕ). paintedOn (shapePainted (a .w) (a .h)) (a .canvas .now) (slice (a .from) k (a .t3 .items))) e, l .loop .inv .4)
+
+pub paint-part-spec : {M : Type 1} → statement M
+paint-part-spec =
+    tie.close
+    (tie.spec
+    Inv-loop
+    μ-loop
+    loop-holds
+    mul-x
+    element-copy-out-x
+    paint-requires
+    add-i
+    loop-less
+    loop-again
+    same-length
+    returns)

@@ -1,0 +1,264 @@
+-- Laws: each trial and each pass of the program keeps to the rule.
+use mathlib.Core.Path.{_≡_, refl, sym, ap, _∙_, subst}
+use mathlib.Core.Bool.{Bool, true, false, _&&_, cond}
+use mathlib.Core.List.{List, [], _∷_, _++_}
+use mathlib.Core.Option.{Option, none, some}
+use Prim.Native.Nat.{ℕ, zero, suc, _+_, _-_, _*_, _≤_, _<_}
+use native.Mathlib.Numerals.{add-one}
+use native.Mathlib.Omega.{arith}
+use borrow.Author.Tests.{ltb-true, ltb-false}
+use lib.Dec.{T, ltb}
+use lib.Ieee.{Float}
+use lib.Ieee.Fits.{and-i}
+use lib.ListN.{length, take, drop}
+use lib.Seq.{take-append-le, length-take-le}
+use Rattle.laws.specs.Every.{every}
+use Rattle.laws.specs.EveryLaws.{every-append, every-take, every-drop}
+use Rattle.laws.specs.Without.{without}
+use Rattle.laws.specs.WithoutLaws.{length-without, take-without}
+use Rattle.float.specs.Within.{allWithin}
+use Rattle.shapes.specs.declared.Shape.{Shape}
+use Rattle.shapes.specs.declared.Shapes.{Shapes}
+use Rattle.shapes.specs.Lists.{listed, ExchangeSays}
+use Rattle.shapes.specs.Ranges.{fits}
+use Rattle.refine.specs.declared.Course.{Course}
+use Rattle.refine.specs.Refinement.{Scene, Progress, paintedOn, drawn, lower, noCandidate, notLower, accepted, after, next, nexts, begun, pass, passes, nothingYet, refined}
+use Rattle.refine.specs.Courses.{progressOf, risen, restarted, Kept, Held, Stepped}
+use Rattle.refine.specs.RefinementLaws.{nexts-more, Zipped, zipped, zip-place, passes-last, passes-more, refined-short, refined-long, drawn-exchanged, next-none, next-kept, next-taken}
+
+every-without : (p : Shape → Bool) (j : ℕ) (l : List Shape) (x : Shape) → T (every p l) → T (p x) → T (every p (without j l ++ (x ∷ [])))
+unfolding without every
+every-without p j l x h k =
+    subst T (sym (every-append p (take j l ++ drop (suc j) l) (x ∷ []) ∙ ap (λ (b : Bool). b && every p (x ∷ [])) (every-append p (take j l) (drop (suc j) l))))
+    (and-i (every p (take j l) && every p (drop (suc j) l)) (every p (x ∷ [])) (and-i (every p (take j l)) (every p (drop (suc j) l)) (every-take p j l h) (every-drop p (suc j) l h)) (and-i (p x) true k tt))
+
+-- a list as long as its count
+pub listed-length : (list : Shapes) → list .count ≤ 64 → length (list .items) ≡ 64 → length (listed list) ≡ list .count
+listed-length list few long = length-take-le (list .count) (list .items) (omega arith)
+
+module _ (g : Scene Shape (List Float)) (size : ℕ) where
+  kept-length : (c : Course) (first second : List Float) → Kept g size c first second → length (listed (c .list)) ≡ c .list .count
+  kept-length c first second k = listed-length (c .list) (k .few) (k .long)
+
+  -- ---- one trial
+  module _ (c : Course) (first second : List Float) (d : Held g size c first second) where
+    -- without a candidate
+    pub stepped-none : g .candidate (c .trials) ≡ none → Stepped g size c (risen c (c .made)) first second
+    unfolding after
+    stepped-none e = record {
+      held = record {
+        kept = record {
+          few = d .kept .few;
+          long = d .kept .long;
+          fitting = d .kept .fitting;
+          total = d .kept .total;
+          first-long = d .kept .first-long;
+          second-long = d .kept .second-long;
+        };
+        behind = omega (arith, d .behind);
+        some-drawn = d .some-drawn;
+        inside = d .inside;
+      };
+      same-count = refl;
+      at = sym (next-none g (progressOf c) e);
+    }
+
+    module _ (x : Shape) (new : Float) (first′ second′ : List Float) (o : g .candidate (c .trials) ≡ some x)
+        (e : new ≡ g .total (g .paint x (drawn g (without (c .place) (listed (c .list)))))) (f : first′ ≡ drawn g (take (c .place) (listed (c .list))))
+        (first-size : length first′ ≡ size) (second-size : length second′ ≡ size) (inside : T (allWithin first′)) where
+      -- a candidate that is not lower by enough
+      pub stepped-kept : lower new (c .old) ≡ false → Stepped g size c (risen c (c .place)) first′ second′
+      unfolding after
+      stepped-kept l = record {
+        held = record {
+          kept = record {
+            few = d .kept .few;
+            long = d .kept .long;
+            fitting = d .kept .fitting;
+            total = d .kept .total;
+            first-long = first-size;
+            second-long = second-size;
+          };
+          behind = omega arith;
+          some-drawn = f;
+          inside = inside;
+        };
+        same-count = refl;
+        at = sym (next-kept g (progressOf c) x (c .old) new o (d .kept .total) e l);
+      }
+
+      -- an accepted one
+      pub stepped-taken : (list′ : Shapes) → lower new (c .old) ≡ true → T (fits x) → c .place < c .list .count → ExchangeSays (c .list) (c .place) x list′
+          → Stepped g size c (record { list = list′; place = c .place; passes = c .passes; trials = c .trials + 1; acceptances = c .acceptances + 1; made = c .place; old = new }) first′ second′
+      unfolding after
+      stepped-taken list′ l q h s =
+          let j = c .place in
+          let m = listed (c .list) in
+          let below : j < length m = omega (arith, kept-length c first second (d .kept)) in
+          record {
+            held = record {
+              kept = record {
+                few = omega (arith, s .0, d .kept .few);
+                long = s .1;
+                fitting = subst (λ (l : List Shape). T (every fits l)) (sym (s .2)) (every-without fits j m x (d .kept .fitting) q);
+                total = e ∙ ap (g .total) (sym (drawn-exchanged g m j x) ∙ ap (drawn g) (sym (s .2)));
+                first-long = first-size;
+                second-long = second-size;
+              };
+              behind = omega arith;
+              some-drawn =
+                  f
+                  ∙ ap (drawn g)
+                  (sym
+                  (ap (take j) (s .2)
+                  ∙ take-append-le j (without j m) (x ∷ []) (omega (arith, length-without j m below))
+                  ∙ take-without j j m (omega arith) (omega arith)));
+              inside = inside;
+            };
+            same-count = s .0;
+            at =
+                ap (λ (k : List Shape). record { list = k; place = j; passes = c .passes; trials = c .trials + 1; acceptances = c .acceptances + 1 }) (s .2)
+                ∙ sym (next-taken g (progressOf c) x (c .old) new o (d .kept .total) e l);
+          }
+
+  -- ---- the trials of a pass over n shapes
+  module _ (n : ℕ) where
+    -- after i trials of the pass that began at b
+    pub record During (b : Progress Shape) (i : ℕ) (c : Course) (first second : List Float) : Type 0 where
+      pub held : Held g size c first second
+      pub count : c .list .count ≡ n
+      pub inside : i ≤ n
+      pub at : progressOf c ≡ nexts g i b
+
+    -- between passes, of which `limit` may be made
+    pub record Between (end : Progress Shape) (limit : ℕ) (c : Course) (first second : List Float) : Type 0 where
+      pub kept : Kept g size c first second
+      pub count : c .list .count ≡ n
+      pub left : c .passes ≤ limit
+      pub few : limit ≤ 16
+      pub few-trials : c .trials ≤ c .passes * 64
+      pub few-taken : c .acceptances ≤ c .trials
+      pub rest : passes g (limit - c .passes) (progressOf c) ≡ end
+
+    module _ (b : Progress Shape) (b-place : b .place ≡ 0) (b-length : length (b .list) ≡ n) (i : ℕ) (c : Course) (first second : List Float) (d : During b i c first second) where
+      pub now-zipped : Zipped b i (progressOf c)
+      now-zipped = subst (λ (a : Progress Shape). Zipped b i a) (sym (d .at)) (zipped g b b-place i (omega (arith, b-length, d .inside)))
+
+      pub place-below : i < n → c .place < c .list .count
+      place-below h = omega (arith, zip-place now-zipped (omega (arith, b-length)), kept-length c first second (d .held .kept))
+
+    pub during-next : (b : Progress Shape) (i : ℕ) (c r : Course) (first second first′ second′ : List Float) → During b i c first second → i < n → Stepped g size c r first′ second′
+        → During b (i + 1) r first′ second′
+    during-next b i c r first second first′ second′ d h s = record {
+      held = s .held;
+      count = s .same-count ∙ d .count;
+      inside = omega arith;
+      at = s .at ∙ ap (next g) (d .at) ∙ sym (nexts-more g i b) ∙ ap (λ (k : ℕ). nexts g k b) (sym (add-one i));
+    }
+
+    -- ---- passes
+    module _ (c : Course) (first second : List Float) (k : Kept g size c first second) (counts : c .list .count ≡ n) (none-yet : progressOf c ≡ nothingYet (listed (c .list))) (p : ℕ) (p-few : p ≤ 16) where
+      no-passes : c .passes ≡ 0
+      no-passes = ap (λ (a : Progress Shape). a .passes) none-yet
+
+      no-trials : c .trials ≡ 0
+      no-trials = ap (λ (a : Progress Shape). a .trials) none-yet
+
+      no-acceptances : c .acceptances ≡ 0
+      no-acceptances = ap (λ (a : Progress Shape). a .acceptances) none-yet
+
+      nearly : (limit m : ℕ) → limit ≡ m → m ≤ 16 → passes g m (nothingYet (listed (c .list))) ≡ refined g p (listed (c .list)) → Between (refined g p (listed (c .list))) limit c first second
+      nearly limit m e few r = record {
+        kept = k;
+        count = counts;
+        left = omega (arith, no-passes);
+        few = omega arith;
+        few-trials = omega (arith, no-trials);
+        few-taken = omega (arith, no-trials, no-acceptances);
+        rest =
+            ap (λ (j : ℕ). passes g j (progressOf c)) {x = limit - c .passes} {y = m} (omega (arith, no-passes))
+            ∙ ap (passes g m) none-yet
+            ∙ r;
+      }
+
+      -- with fewer than two shapes no pass is made
+      pub between-start : (limit : ℕ) → limit ≡ cond (ltb n 2) 0 p → Between (refined g p (listed (c .list))) limit c first second
+      between-start limit e = by (ltb n 2) refl
+        where
+          by : (b : Bool) → ltb n 2 ≡ b → Between (refined g p (listed (c .list))) limit c first second
+          by true t =
+              nearly limit 0 (e ∙ ap (λ (b : Bool). cond b 0 p) t) (omega arith)
+              (sym (refined-short g p (listed (c .list)) (omega (arith, ltb-true n 2 t, kept-length c first second k))))
+          by false t =
+              nearly limit p (e ∙ ap (λ (b : Bool). cond b 0 p) t) p-few
+              (sym (refined-long g p (listed (c .list)) (omega (arith, ltb-false n 2 t, kept-length c first second k))))
+
+    module _ (end : Progress Shape) (limit : ℕ) (c : Course) (first second : List Float) (s : Between end limit c first second) (h : c .passes < limit) where
+      -- a pass begins over the background
+      pub during-start : (first′ : List Float) → first′ ≡ g .background → length first′ ≡ size → T (allWithin first′)
+          → During (progressOf (restarted c)) 0 (restarted c) first′ second
+      unfolding nexts paintedOn
+      during-start first′ e l i = record {
+        held = record {
+          kept = record {
+            few = s .kept .few;
+            long = s .kept .long;
+            fitting = s .kept .fitting;
+            total = s .kept .total;
+            first-long = l;
+            second-long = s .kept .second-long;
+          };
+          behind = omega arith;
+          some-drawn = e;
+          inside = i;
+        };
+        count = s .count;
+        inside = omega arith;
+        at = refl;
+      }
+
+      -- and ends
+      module _ (i : ℕ) (r : Course) (first′ second′ : List Float) (d : During (progressOf (restarted c)) i r first′ second′) (all : n ≤ i) where
+        one-pass : progressOf r ≡ pass g (progressOf c)
+        unfolding pass begun
+        one-pass = d .at ∙ ap (λ (m : ℕ). nexts g m (progressOf (restarted c))) {x = i} {y = length (listed (c .list))} (omega (arith, d .inside, s .count, kept-length c first second (s .kept)))
+
+        counted : Zipped (progressOf (restarted c)) i (progressOf r)
+        counted = now-zipped (progressOf (restarted c)) refl (kept-length c first second (s .kept) ∙ s .count) i r first′ second′ d
+
+        one-less : limit - c .passes ≡ suc (limit - r .passes)
+        one-less = omega (arith, counted .passes)
+
+        ended : (l : ℕ) → r .passes ≤ l → l ≤ limit → passes g (l - r .passes) (progressOf r) ≡ end → Between end l r first′ second′
+        ended l p q e = record {
+          kept = d .held .kept;
+          count = d .count;
+          left = p;
+          few = omega (arith, s .few);
+          few-trials = omega (arith, s .few-trials, counted .trials, counted .passes, d .inside, s .count, s .kept .few);
+          few-taken = omega (arith, s .few-taken, counted .trials, counted .acceptances, counted .tried);
+          rest = e;
+        }
+
+        pub between-last : r .acceptances ≡ c .acceptances → Between end (r .passes) r first′ second′
+        unfolding passes
+        between-last e =
+            ended (r .passes) (omega arith) (omega (arith, counted .passes))
+            (ap (λ (m : ℕ). passes g m (progressOf r)) {x = r .passes - r .passes} {y = 0} (omega arith)
+            ∙ one-pass
+            ∙ sym (passes-last g (limit - r .passes) (progressOf c) (sym (ap (λ (q : Progress Shape). q .acceptances) one-pass) ∙ e))
+            ∙ ap (λ (m : ℕ). passes g m (progressOf c)) (sym one-less)
+            ∙ s .rest)
+
+        pub between-more : (r .acceptances ≡ c .acceptances → ⊥) → Between end limit r first′ second′
+        between-more e =
+            ended limit (omega (arith, counted .passes)) (omega arith)
+            (ap (passes g (limit - r .passes)) one-pass
+            ∙ sym (passes-more g (limit - r .passes) (progressOf c) (λ z. e (ap (λ (q : Progress Shape). q .acceptances) one-pass ∙ z)))
+            ∙ ap (λ (m : ℕ). passes g m (progressOf c)) (sym one-less)
+            ∙ s .rest)
+
+    -- ---- the end
+    pub between-end : (end : Progress Shape) (limit : ℕ) (c : Course) (first second : List Float) (s : Between end limit c first second) → limit ≤ c .passes → progressOf c ≡ end
+    unfolding passes
+    between-end end limit c first second s h = ap (λ (m : ℕ). passes g m (progressOf c)) {x = 0} {y = limit - c .passes} (omega arith) ∙ s .rest

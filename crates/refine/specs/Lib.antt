@@ -1,0 +1,13 @@
+-- What a reader must believe.
+pub mod Refinement
+pub mod Scenes
+pub mod Tests
+pub mod Answers
+-- The forms in which it is proved.
+pub mod Courses
+-- What follows.
+pub mod RefinementLaws
+pub mod PartLaws
+pub mod CourseLaws
+pub mod TestLaws
+pub mod AnswerLaws

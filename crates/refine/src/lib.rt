@@ -1,0 +1,176 @@
+// Refinement: shapes of a list are tried against candidates, and leave for one that lowers the total.
+ghost use mathlib.Core.Bool.{false, cond};
+ghost use mathlib.Core.List.{List, _++_};
+ghost use mathlib.Core.Option.{Option};
+ghost use mathlib.Core.Path.{_≡_};
+ghost use Prim.Native.Nat.{ℕ, _+_, _*_, _<_, _≤_};
+ghost use lib.Dec.{T, ltb};
+ghost use lib.Ieee.{Float};
+ghost use lib.ListN.{length};
+ghost use lib.Seq.{slice};
+ghost use Rattle.float.specs.Within.{allWithin};
+ghost use Rattle.refusal.specs.Refusals.{Sized, lowest};
+ghost use Rattle.picture.specs.Pixels.{badColour, filled, totalOf};
+ghost use Rattle.shapes.specs.declared.Shape.{Shape};
+ghost use Rattle.shapes.specs.Lists.{shapeIn};
+ghost use Rattle.shapes.specs.Ranges.{fits};
+ghost use Rattle.refine.specs.Refinement.{paintedOn};
+ghost use Rattle.refine.specs.Scenes.{shapePainted, sceneWith};
+ghost use Rattle.refine.specs.Tests.{sizeTests, rangeTests};
+ghost use Rattle.refine.specs.Courses.{Drawable, Targeted, risen, restarted, Held, Stepped, Ready};
+ghost use Rattle.refine.specs.Answers.{told, refusedWith, RefineShapesSays};
+use shapes::Candidate;
+use shapes::Candidates;
+use shapes::Ranges;
+use shapes::Shape;
+use shapes::Shapes;
+
+// What refinement answers. Refused: the number, the list as handed in, and all else 0.
+pub struct Refined {
+    pub refusal: u8,
+    pub shapes: Shapes,
+    pub passes: usize,
+    pub trials: usize,
+    pub acceptances: usize,
+}
+
+// How far refinement has come: the list, the place j of the next trial and the three counts of the answer; how many shapes the
+// first work picture has, and the total of the whole list.
+struct Course {
+    list: Shapes,
+    place: usize,
+    passes: usize,
+    trials: usize,
+    acceptances: usize,
+    made: usize,
+    old: f64,
+}
+
+// ---- drawing
+
+// A shape is painted as it stands.
+fn paint(w: usize, h: usize, s: Shape, canvas: &mut [f32])
+    requires { ⌜ Sized w h × (length (now canvas) ≡ h * w * 3) × T (fits s) × T (allWithin (now canvas)) ⌝ }
+    ensures { λ _. ⌜ (now (canvas .exit) ≡ shapePainted w h s (now (canvas .entry))) × T (allWithin (now (canvas .exit))) ⌝ }
+{
+    let kind = s.kind;
+    picture::blend(kind, s.opacity, s.red, s.green, s.blue, w, h, canvas);
+}
+
+// The shapes from `from` up to `to` of the list, in their order.
+fn paint_part(w: usize, h: usize, list: Shapes, from: usize, to: usize, canvas: &mut [f32])
+    requires { ⌜ Drawable w h list × (from ≤ to) × (to ≤ list .count) × (length (now canvas) ≡ h * w * 3) × T (allWithin (now canvas)) ⌝ }
+    ensures { λ _. ⌜ (now (canvas .exit) ≡ paintedOn (shapePainted w h) (now (canvas .entry)) (slice from to (list .items))) × T (allWithin (now (canvas .exit))) ⌝ }
+{
+    let mut i = from;
+    while i < to {
+        let x = list.items[i];
+        paint(w, h, x, canvas);
+        i += 1;
+    }
+}
+
+fn copy(from: &[f32], to: &mut [f32])
+    requires { ⌜ length (now from) ≡ length (now to) ⌝ }
+    ensures { λ _. ⌜ now (to .exit) ≡ now (from .entry) ⌝ }
+{
+    let mut i = 0;
+    while i < to.len() {
+        to[i] = from[i];
+        i += 1;
+    }
+}
+
+// The whole list over the background.
+fn draw(w: usize, h: usize, red: f32, green: f32, blue: f32, list: Shapes, canvas: &mut [f32])
+    requires { ⌜ Drawable w h list × (badColour red green blue ≡ false) × (length (now canvas) ≡ h * w * 3) ⌝ }
+    ensures { λ _. ⌜ (now (canvas .exit) ≡ paintedOn (shapePainted w h) (filled w h red green blue) (slice 0 (list .count) (list .items))) × T (allWithin (now (canvas .exit))) ⌝ }
+{
+    picture::fill(w, h, red, green, blue, canvas);
+    paint_part(w, h, list, 0, list.count, canvas);
+}
+
+// ---- one trial
+
+// What is left of the shapes before j is painted on `first`, which has the first `made` of them. On `second` come those, the shapes
+// after j and the candidate: its total is answered.
+fn try_candidate(
+    w: usize,
+    h: usize,
+    target: &[f32],
+    list: Shapes,
+    made: usize,
+    j: usize,
+    x: Shape,
+    first: &mut [f32],
+    second: &mut [f32],
+) -> f64
+    requires { ⌜ Drawable w h list × (made ≤ j) × (j < list .count) × T (fits x) ⌝ }
+    requires { ⌜ Targeted w h (now target) × (length (now first) ≡ h * w * 3) × (length (now second) ≡ h * w * 3) × T (allWithin (now first)) ⌝ }
+    ensures { λ r. ⌜ (now (first .exit) ≡ paintedOn (shapePainted w h) (now (first .entry)) (slice made j (list .items)))
+        × T (allWithin (now (first .exit)))
+        × (r ≡ totalOf (now (target .entry)) (shapePainted w h x (paintedOn (shapePainted w h) (now (first .exit)) (slice (j + 1) (list .count) (list .items))))) ⌝ }
+{
+    paint_part(w, h, list, made, j, first);
+    copy(first, second);
+    paint_part(w, h, list, j + 1, list.count, second);
+    paint(w, h, x, second);
+    picture::total_within(target, second)
+}
+
+// No acceptance: j rises by one.
+fn rise(c: Course, made: usize) -> Course
+    requires { ⌜ (c .place < 64) × (c .trials < 1024) ⌝ }
+    ensures { λ r. ⌜ r ≡ risen c made ⌝ }
+{
+    let list = c.list;
+    Course {
+        list,
+        place: c.place + 1,
+        passes: c.passes,
+        trials: c.trials + 1,
+        acceptances: c.acceptances,
+        made,
+        old: c.old,
+    }
+}
+
+// A trial costs one total: `old` stays after a rejected one, and is the new total after an accepted one. Only the shapes after j are
+// drawn for it, and none without a candidate.
+fn step(
+    w: usize,
+    h: usize,
+    target: &[f32],
+    c: Course,
+    what: Candidate,
+    first: &mut [f32],
+    second: &mut [f32],
+) -> Course
+    requires { ⌜ Ready w h (now target) c (shapeIn what) (now first) (now second) ⌝ }
+    ensures { λ r. ⌜ ((b : List Float) (f : ℕ → Option Shape) → f (c .trials) ≡ shapeIn what
+        → Held (sceneWith w h (now (target .entry)) b f) (h * w * 3) c (now (first .entry)) (now (second .entry))
+        → Stepped (sceneWith w h (now (target .entry)) b f) (h * w * 3) c r (now (first .exit)) (now (second .exit))) ⌝ }
+{
+    match what {
+        Candidate::Nothing => rise(c, c.made),
+        Candidate::Some(x) => {
+            let list = c.list;
+            let j = c.place;
+            let new = try_candidate(w, h, target, list, c.made, j, x, first, second);
+            if new + 1e-9 < c.old {
+                let list = shapes::exchange(list, j, x);
+                Course {
+                    list,
+                    place: j,
+                    passes: c.passes,
+                    trials: c.trials + 1,
+                    acceptances: c.acceptances + 1,
+                    made: j,
+                    old: new,
+                }
+            } else {
+                rise(c, j)
+            }
+        }
+    }
+}

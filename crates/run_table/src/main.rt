@@ -1,0 +1,320 @@
+// A small table's numbers, document 01's figures of an update, and the refusals of both calls, several wrong at once.
+use sums::ShapeSums;
+
+const MARK: f64 = 7.0;
+
+fn fill(xs: &mut [f32], first: f32, step: f32) {
+    let mut x = first;
+    for i in 0..xs.len() {
+        xs[i] = x;
+        x = x + step;
+    }
+}
+
+fn mark(table: &mut [f64]) {
+    for i in 0..table.len() {
+        table[i] = MARK;
+    }
+}
+
+// How many numbers were written.
+fn written(table: &[f64]) -> usize {
+    let mut n = 0;
+    for i in 0..table.len() {
+        if table[i] != MARK {
+            n += 1;
+        }
+    }
+    n
+}
+
+fn same(a: &[f64], b: &[f64]) -> bool {
+    if a.len() != b.len() {
+        return false;
+    }
+    let mut ok = true;
+    for i in 0..a.len() {
+        if a[i] != b[i] {
+            ok = false;
+        }
+    }
+    ok
+}
+
+fn answer(no: u8, table: &[f64]) {
+    show::text(b": ");
+    show::unsigned(no as u64);
+    show::text(b", numbers written ");
+    show::unsigned(written(table) as u64);
+    show::text(b"\n");
+}
+
+// ---- an update of 3 rows of 2 pixels: the canvas has changed in every row
+
+fn row_shown(y: usize, old: &[f64], new: &[f64], fresh: &[f64]) {
+    if same(new, old) {
+        return;
+    }
+    show::text(b" ");
+    show::unsigned(y as u64);
+    if !same(new, fresh) {
+        show::text(b" (not as built)");
+    }
+}
+
+fn rows_shown(old: &[f64; 135], new: &[f64; 135], fresh: &[f64; 135]) {
+    let a = &old[..];
+    let b = &new[..];
+    let c = &fresh[..];
+    row_shown(0, &a[0..45], &b[0..45], &c[0..45]);
+    row_shown(1, &a[45..90], &b[45..90], &c[45..90]);
+    row_shown(2, &a[90..135], &b[90..135], &c[90..135]);
+}
+
+fn update(ymin: i32, ymax: i32) {
+    let mut target = [0.0f32; 18];
+    let mut canvas = [0.0f32; 18];
+    let mut changed = [0.0f32; 18];
+    fill(&mut target, 0.0, 0.05);
+    fill(&mut canvas, 0.9, -0.04);
+    fill(&mut changed, 0.1, 0.03);
+    let mut old = [0.0; 135];
+    let mut new = [0.0; 135];
+    let mut fresh = [0.0; 135];
+    table::build(&target, &canvas, 2, 3, &mut old);
+    table::build(&target, &canvas, 2, 3, &mut new);
+    table::build(&target, &changed, 2, 3, &mut fresh);
+    let no = table::update_canvas_rows(&target, &changed, 2, 3, &mut new, ymin, ymax);
+    show::text(b"update ");
+    show::signed32(ymin);
+    show::text(b" to ");
+    show::signed32(ymax);
+    show::text(b": ");
+    show::unsigned(no as u64);
+    show::text(b", redone");
+    rows_shown(&old, &new, &fresh);
+    show::text(b"\n");
+}
+
+fn updates() {
+    update(-4, -1);
+    update(3, 5);
+    update(-2147483648, 2147483647);
+    update(2, 1);
+    update(0, 0);
+    update(1, -2147483648);
+    update(2147483647, -1);
+    update(1, 2);
+}
+
+// ---- refusals: pictures of nt and nc numbers, a table of n, and a pixel of the target and of the canvas
+
+fn asked(w: usize, h: usize, nt: usize, nc: usize, n: usize, pt: f32, pc: f32) {
+    show::unsigned(w as u64);
+    show::text(b"x");
+    show::unsigned(h as u64);
+    show::text(b", lengths ");
+    show::unsigned(nt as u64);
+    show::text(b" ");
+    show::unsigned(nc as u64);
+    show::text(b" ");
+    show::unsigned(n as u64);
+    show::text(b", pixels ");
+    show::hex(float::bits32(pt) as u64, 8);
+    show::text(b" ");
+    show::hex(float::bits32(pc) as u64, 8);
+}
+
+fn build_on(target: &[f32], canvas: &[f32], w: usize, h: usize, places: &mut [f64]) {
+    mark(places);
+    let no = table::build(target, canvas, w, h, places);
+    answer(no, places);
+}
+
+fn update_on(target: &[f32], canvas: &[f32], w: usize, h: usize, places: &mut [f64]) {
+    mark(places);
+    let no = table::update_canvas_rows(target, canvas, w, h, places, 0, 2);
+    answer(no, places);
+}
+
+fn build(w: usize, h: usize, nt: usize, nc: usize, n: usize, pt: f32, pc: f32) {
+    let mut target = [0.5f32; 20];
+    let mut canvas = [0.25f32; 20];
+    let mut places = [0.0; 150];
+    target[3] = pt;
+    canvas[17] = pc;
+    show::text(b"build ");
+    asked(w, h, nt, nc, n, pt, pc);
+    if nt <= 20 {
+        if nc <= 20 {
+            if n <= 150 {
+                build_on(&target[0..nt], &canvas[0..nc], w, h, &mut places[0..n]);
+            }
+        }
+    }
+}
+
+fn refresh(w: usize, h: usize, nt: usize, nc: usize, n: usize, pt: f32, pc: f32) {
+    let mut target = [0.5f32; 20];
+    let mut canvas = [0.25f32; 20];
+    let mut places = [0.0; 150];
+    target[3] = pt;
+    canvas[17] = pc;
+    show::text(b"update ");
+    asked(w, h, nt, nc, n, pt, pc);
+    if nt <= 20 {
+        if nc <= 20 {
+            if n <= 150 {
+                update_on(&target[0..nt], &canvas[0..nc], w, h, &mut places[0..n]);
+            }
+        }
+    }
+}
+
+fn builds() {
+    // none wrong; -0.0 and 1.0 are within
+    build(2, 3, 18, 18, 135, 0.5, 0.25);
+    build(2, 3, 18, 18, 135, -0.0, 0.25);
+    build(2, 3, 18, 18, 135, 1.0, 0.25);
+    build(3, 2, 18, 18, 120, 0.5, 0.25);
+    // a size
+    build(0, 3, 18, 18, 135, 0.5, 0.25);
+    build(2, 0, 18, 18, 135, 0.5, 0.25);
+    build(257, 3, 18, 18, 135, 0.5, 0.25);
+    build(2, 257, 18, 18, 135, 0.5, 0.25);
+    // a product of these sizes that wraps would be 18
+    build(2, 9223372036854775811, 18, 18, 135, 0.5, 0.25);
+    // a length
+    build(2, 3, 17, 18, 135, 0.5, 0.25);
+    build(2, 3, 18, 19, 135, 0.5, 0.25);
+    build(2, 3, 18, 18, 134, 0.5, 0.25);
+    build(2, 3, 18, 18, 136, 0.5, 0.25);
+    build(3, 2, 18, 18, 135, 0.5, 0.25);
+    // a pixel: just above 1, just below 0, a NaN
+    build(2, 3, 18, 18, 135, float::of_bits32(0x3f80_0001), 0.25);
+    build(2, 3, 18, 18, 135, float::of_bits32(0x8000_0001), 0.25);
+    build(2, 3, 18, 18, 135, float::of_bits32(0x7fc0_0000), 0.25);
+    build(2, 3, 18, 18, 135, 0.5, 2.0);
+    build(2, 3, 18, 18, 135, 0.5, float::of_bits32(0x7fc0_0000));
+    // a size and a length; a size and a pixel; a length and a pixel; all three
+    build(0, 3, 17, 18, 135, 0.5, 0.25);
+    build(257, 3, 18, 18, 135, 2.0, 0.25);
+    build(2, 3, 18, 18, 134, 2.0, 0.25);
+    build(2, 0, 18, 17, 134, 2.0, 0.25);
+}
+
+fn refreshes() {
+    // none wrong: an update reads any pixel
+    refresh(2, 3, 18, 18, 135, 0.5, 0.25);
+    refresh(2, 3, 18, 18, 135, 2.0, 0.25);
+    refresh(2, 3, 18, 18, 135, float::of_bits32(0x7fc0_0000), 0.25);
+    refresh(2, 3, 18, 18, 135, 0.5, float::of_bits32(0xffc0_0001));
+    // a size
+    refresh(0, 3, 18, 18, 135, 0.5, 0.25);
+    refresh(2, 257, 18, 18, 135, 0.5, 0.25);
+    // a length
+    refresh(2, 3, 20, 18, 135, 0.5, 0.25);
+    refresh(2, 3, 18, 0, 135, 0.5, 0.25);
+    refresh(2, 3, 18, 18, 0, 0.5, 0.25);
+    refresh(3, 2, 18, 18, 135, 0.5, 0.25);
+    // a size and a length, and a pixel that does not matter
+    refresh(257, 3, 17, 18, 135, 0.5, 0.25);
+    refresh(2, 0, 18, 18, 136, 2.0, 0.25);
+    refresh(2, 3, 18, 17, 135, 2.0, 0.25);
+}
+
+// ---- the numbers themselves, of 1 row of 2 pixels
+
+fn number(x: f64) {
+    show::text(b" ");
+    show::hex(float::bits64(x), 16);
+}
+
+fn numbers(table: &[f64]) {
+    for i in 0..table.len() {
+        number(table[i]);
+        if i % 3 == 2 {
+            show::text(b"\n");
+        }
+    }
+}
+
+fn three(xs: [f64; 3]) {
+    number(xs[0]);
+    number(xs[1]);
+    number(xs[2]);
+    show::text(b"\n");
+}
+
+// Pixels left to right added to sums over five others.
+fn span(table: &[f64], left: usize, right: usize) {
+    if table.len() != 45 {
+        return;
+    }
+    if right < left {
+        return;
+    }
+    if 2 < right {
+        return;
+    }
+    let some = ShapeSums {
+        s_t: [1.0, 2.0, 3.0],
+        s_c: [4.0, 5.0, 6.0],
+        s_t2: [7.0, 8.0, 9.0],
+        s_c2: [10.0, 11.0, 12.0],
+        s_tc: [13.0, 14.0, 15.0],
+        count: 5,
+    };
+    let s = table::add_span(table, 2, 0, left, right, some);
+    show::text(b"span ");
+    show::unsigned(left as u64);
+    show::text(b" to ");
+    show::unsigned(right as u64);
+    show::text(b", ");
+    show::unsigned(s.count as u64);
+    show::text(b" pixels\n");
+    let t = s.s_t;
+    let c = s.s_c;
+    let tt = s.s_t2;
+    let cc = s.s_c2;
+    let tc = s.s_tc;
+    three(t);
+    three(c);
+    three(tt);
+    three(cc);
+    three(tc);
+}
+
+fn small() {
+    let target = [0.1f32, 0.2, 0.3, 0.7, 0.9, -0.0];
+    let canvas = [0.5f32, 0.25, -0.0, 0.3, 0.6, 1.0];
+    let mut places = [7.0; 45];
+    table::build(&target, &canvas, 2, 1, &mut places);
+    show::text(b"built\n");
+    numbers(&places);
+    span(&places, 0, 1);
+    span(&places, 0, 2);
+    span(&places, 1, 2);
+    let changed = [0.9f32, 0.8, 0.7, 0.6, float::of_bits32(0x7fc0_0000), 0.4];
+    table::update_canvas_rows(&target, &changed, 2, 1, &mut places, 0, 0);
+    show::text(b"updated, with a NaN\n");
+    numbers(&places);
+}
+
+// The same pixels as 2 rows of 1: each row starts afresh.
+fn tall() {
+    let target = [0.1f32, 0.2, 0.3, 0.7, 0.9, -0.0];
+    let canvas = [0.5f32, 0.25, -0.0, 0.3, 0.6, 1.0];
+    let mut places = [7.0; 60];
+    table::build(&target, &canvas, 1, 2, &mut places);
+    show::text(b"built, 2 rows\n");
+    numbers(&places);
+}
+
+fn main() {
+    small();
+    tall();
+    updates();
+    builds();
+    refreshes();
+}

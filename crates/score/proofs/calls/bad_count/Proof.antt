@@ -1,0 +1,22 @@
+-- `score::calls::bad_count` meets its contract, by cases on the request.
+use mathlib.Core.Path.{sym, ap}
+use Rattle.score.specs.Scoring.{badCount}
+use native.Mathlib.Omega.{arith}
+use borrow.Author.Needs.{needs}
+use Rattle.score.proofs.calls.bad_count.Statement.{statement}
+use Rattle.score.proofs.calls.bad_count.Tie as tie
+
+enum-told : tie.Need-enum-told
+enum-told c = search needs
+
+enum-known-request : tie.Need-enum-known-request
+enum-known-request c = search needs
+
+returns : tie.Need-returns
+returns c = search needs
+
+returns-2 : tie.Need-returns-2
+returns-2 c = sym (ap badCount (c .before .request .given .1))
+
+pub bad-count-spec : {M : Type 1} → statement M
+bad-count-spec = tie.close (tie.spec enum-told enum-known-request returns returns-2)

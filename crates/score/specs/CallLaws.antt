@@ -1,0 +1,89 @@
+-- Laws: the refusals of the calls, test by test, and what a call that is not refused knows.
+use mathlib.Core.Path.{_≡_, refl, sym, _∙_, ap}
+use mathlib.Core.Bool.{Bool, true, false, not, _||_, cond}
+use mathlib.Core.List.{List, [], _∷_}
+use Prim.Native.Nat.{ℕ, _+_, _*_}
+use borrow.Author.Tests.{eq-eqb, ne-eqb, eqb-true, not-false}
+use lib.Dec.{T, eqb}
+use lib.ListN.{length}
+use lib.Ieee.{Float}
+use Rattle.laws.specs.Bools.{or-left, or-right}
+use Rattle.refusal.specs.Refusals.{Test, Sized, lowest, sizeIf, lengthIf, countIf, placeIf, opacityIf, badSize}
+use Rattle.refusal.specs.RefusalLaws.{above, lowest-skip, lowest-take, lowest-none, sized}
+use Rattle.refusal.specs.Lengths.{badPicture, badTable}
+use Rattle.cover.specs.declared.Kind.{Kind}
+use Rattle.cover.specs.Cover.{badPlaces}
+use Rattle.score.specs.declared.Score.{Score}
+use Rattle.score.specs.declared.Scored.{Scored}
+use Rattle.score.specs.declared.Scored.the-variants.{Done, Refused}
+use Rattle.score.specs.declared.Request.{Request}
+use Rattle.score.specs.Scoring.{badCount, badOpacity, badLevels, spanRefusal, pointRefusal, answered}
+
+pub or-first : (a b : Bool) → a ≡ true → a || b ≡ true
+or-first a b h = ap (λ (t : Bool). t || b) h
+
+pub or-second : (a b : Bool) → b ≡ true → a || b ≡ true
+or-second true b h = refl
+or-second false b h = h
+
+pub or-neither : (a b : Bool) → a ≡ false → b ≡ false → a || b ≡ false
+or-neither a b h g = ap (λ (t : Bool). t || b) h ∙ g
+
+-- a size and a length before other tests
+module _ (a b : Bool) (r : List Test) (up : T (above 2 r)) where
+  pub size-first : T (above 1 (lengthIf b ∷ r)) → a ≡ true → lowest (sizeIf a ∷ lengthIf b ∷ r) ≡ 1
+  size-first u h = lowest-take (sizeIf a) (lengthIf b ∷ r) h u
+
+  pub length-next : a ≡ false → b ≡ true → lowest (sizeIf a ∷ lengthIf b ∷ r) ≡ 2
+  length-next h g = lowest-skip (sizeIf a) (lengthIf b ∷ r) h ∙ lowest-take (lengthIf b) r g up
+
+  pub others-next : a ≡ false → b ≡ false → lowest (sizeIf a ∷ lengthIf b ∷ r) ≡ lowest r
+  others-next h g = lowest-skip (sizeIf a) (lengthIf b ∷ r) h ∙ lowest-skip (lengthIf b) r g
+
+-- what is not refused by any of the five
+pub record Passed (a b c d e : Bool) : Type 0 where
+  pub size : a ≡ false
+  pub lengths : b ≡ false
+  pub count : c ≡ false
+  pub place : d ≡ false
+  pub opacity : e ≡ false
+
+pub passed : (a b c d e : Bool) → lowest (sizeIf a ∷ lengthIf b ∷ countIf c ∷ placeIf d ∷ opacityIf e ∷ []) ≡ 0 → Passed a b c d e
+passed a b c d e h =
+    let p = lowest-none (sizeIf a) (lengthIf b ∷ countIf c ∷ placeIf d ∷ opacityIf e ∷ []) tt h in
+    let q = lowest-none (lengthIf b) (countIf c ∷ placeIf d ∷ opacityIf e ∷ []) tt (p .1) in
+    let r = lowest-none (countIf c) (placeIf d ∷ opacityIf e ∷ []) tt (q .1) in
+    let s = lowest-none (placeIf d) (opacityIf e ∷ []) tt (r .1) in
+    let t = lowest-none (opacityIf e) [] tt (s .1) in
+    record { size = p .0; lengths = q .0; count = r .0; place = s .0; opacity = t .0 }
+
+pub levels-length : (levels : List Float) → badLevels levels ≡ false → length levels ≡ 64
+levels-length levels h = eqb-true (length levels) 64 (not-false (eqb (length levels) 64) h)
+
+pub table-length : (w h n : ℕ) → badTable w h n ≡ false → n ≡ h * (w + 1) * 15
+unfolding badTable
+table-length w h n e = eqb-true n (h * (w + 1) * 15) (not-false (eqb n (h * (w + 1) * 15)) e)
+
+pub picture-length : (w h n : ℕ) → badPicture w h n ≡ false → n ≡ h * w * 3
+unfolding badPicture
+picture-length w h n e = eqb-true n (h * w * 3) (not-false (eqb n (h * w * 3)) e)
+
+pub span-passed : (kind : Kind) (request : Request) (levels : List Float) (w h : ℕ) (table : List Float) → spanRefusal kind request levels w h table ≡ 0
+    → Passed (badSize w h) (badLevels levels || badTable w h (length table)) (badCount request) (badPlaces kind) (badOpacity request levels)
+unfolding spanRefusal
+span-passed kind request levels w h table e =
+    passed (badSize w h) (badLevels levels || badTable w h (length table)) (badCount request) (badPlaces kind) (badOpacity request levels) e
+
+pub point-passed : (kind : Kind) (request : Request) (levels : List Float) (w h : ℕ) (target canvas : List Float)
+    → pointRefusal kind request levels w h target canvas ≡ 0
+    → Passed (badSize w h) (badLevels levels || (badPicture w h (length target) || badPicture w h (length canvas))) (badCount request) (badPlaces kind) (badOpacity request levels)
+unfolding pointRefusal
+point-passed kind request levels w h target canvas e =
+    passed (badSize w h) (badLevels levels || (badPicture w h (length target) || badPicture w h (length canvas))) (badCount request) (badPlaces kind) (badOpacity request levels) e
+
+-- ---- the answers
+pub answered-refused : (n k : ℕ) (s : Score) → k ≡ n → (k ≡ 0 → ⊥) → Refused k ≡ answered n s
+answered-refused n k s e z = ap Refused e ∙ sym (ap (λ (b : Bool). cond b (Done s) (Refused n)) (ne-eqb n 0 (λ q. z (e ∙ q))))
+
+pub answered-done : (n : ℕ) (s t : Score) → n ≡ 0 → t ≡ s → Done t ≡ answered n s
+answered-done n s t z e = ap Done e ∙ sym (ap (λ (b : Bool). cond b (Done s) (Refused n)) (eq-eqb n 0 z))
