@@ -2,18 +2,22 @@
 use mathlib.Core.Path.{_≡_, refl, sym, _∙_, ap}
 use mathlib.Core.Bool.{Bool, true, false, cond}
 use mathlib.Core.List.{List, [], _∷_, _++_}
-use Prim.Native.Nat.{ℕ, suc, min, _+_, _-_, _*_, _<_, _≤_}
+use Prim.Native.Nat.{ℕ, zero, suc, min, _+_, _-_, _*_, _^_, _<_, _≤_}
 use native.Mathlib.Omega.{arith}
 use lib.Dec.{eqb}
 use lib.ListN.{length, take, drop, getD, set, length-set, length-drop, drop-of-length-le, take-append-drop}
 use lib.Seq.{drop-cons, drop-drop, take-length, take-suc-set, drop-set-lt, append-snoc}
 use native.Mathlib.Numerals.{add-one}
 use borrow.Author.Tests.{lt-ltb, le-ltb, eq-eqb, ne-eqb}
-use lib.IntN.{ℤ}
+use lib.IntN.{ℤ, pos, negsuc, _-ℤ_}
+use mir.Syntax.{Width}
+use mir.Val.{SFits, hbits, toZ, ofZ}
+use mir.Facts.{toZ-pos, toZ-ofZ}
+use native.Mathlib.Nat.{zero-add}
 use Rattle.bytes.specs.Bytes.{indexOf, indexAfter, slice}
 use Rattle.words.specs.declared.Word.{Word}
 use Rattle.words.specs.declared.Word.the-variants.{Number, Other}
-use Rattle.words.specs.Words.{digitOf, digitsAfter, digits, negated, valueOf, joined, wordsOf, leading, numbersOf, over, ValueSays, NumbersSays, SignedSays}
+use Rattle.words.specs.Words.{digitOf, digitsAfter, digits, negated, valueOf, joined, wordsOf, leading, numbersOf, over, ValueSays, NumbersSays, SignedSays, Signed32Says}
 
 pub ValueSays-unique : (w : List ℕ) (r s : Word) → ValueSays w r → ValueSays w s → r ≡ s
 ValueSays-unique w r s p q = p ∙ sym q
@@ -23,6 +27,27 @@ NumbersSays-unique t o r s a b p q = (p .0 ∙ sym (q .0), p .1 ∙ sym (q .1))
 
 pub SignedSays-unique : (b : ℕ) (r s : ℤ) → SignedSays b r → SignedSays b s → r ≡ s
 SignedSays-unique b r s p q = p ∙ sym q
+
+pub Signed32Says-unique : (b : ℕ) (r s : ℤ) → Signed32Says b r → Signed32Says b s → r ≡ s
+Signed32Says-unique b r s p q = p ∙ sym q
+
+-- ---- signed numbers: -1 less a number, at any width
+
+below : (k : ℕ) → negsuc 0 -ℤ pos k ≡ negsuc k
+below zero = refl
+below (suc k) = ap (λ (n : ℕ). negsuc (suc n)) (zero-add k)
+
+module _ (w : Width) (k : ℕ) (h : k < 2 ^ hbits w) where
+  pub less-is : negsuc 0 -ℤ toZ w k ≡ negsuc k
+  less-is = ap (λ (z : ℤ). negsuc 0 -ℤ z) (toZ-pos w h) ∙ below k
+
+  pub less-fits : SFits w (negsuc 0 -ℤ toZ w k)
+  less-fits = rw less-is (record { sfits = h })
+
+  pub less-read : toZ w (ofZ w (negsuc 0 -ℤ toZ w k)) ≡ negsuc k
+  less-read = toZ-ofZ less-fits ∙ less-is
+
+-- ---- a line
 
 -- "-7 x0A 9" and an end that is no number
 figure : numbersOf (wordsOf (45 ∷ 55 ∷ 32 ∷ 120 ∷ 48 ∷ 65 ∷ 32 ∷ 57 ∷ 32 ∷ 61 ∷ [])) ≡ 18446744073709551609 ∷ 10 ∷ 9 ∷ []

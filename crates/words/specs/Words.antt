@@ -64,3 +64,7 @@ NumbersSays text before r after = (r ≡ min (length (numbersOf (wordsOf text)))
 
 abbrev pub SignedSays : ℕ → ℤ → Type 0
 SignedSays bits r = r ≡ cond (ltb bits (2 ^ 63)) (pos bits) (negsuc (2 ^ 64 - 1 - bits))
+
+-- 0 where no i32 holds the number
+abbrev pub Signed32Says : ℕ → ℤ → Type 0
+Signed32Says bits r = r ≡ cond (ltb bits (2 ^ 31)) (pos bits) (cond (ltb bits (2 ^ 64 - 2 ^ 31)) (pos 0) (negsuc (2 ^ 64 - 1 - bits)))

@@ -2,7 +2,7 @@
 // a decimal number, with '-' before a negative one, or x and the hexadecimal digits of a pattern.
 ghost use mathlib.Core.Path.{_≡_};
 ghost use Prim.Native.Nat.{_≤_};
-ghost use Rattle.words.specs.Words.{digitOf, digits, negated, ValueSays, NumbersSays, SignedSays};
+ghost use Rattle.words.specs.Words.{digitOf, digits, negated, ValueSays, NumbersSays, SignedSays, Signed32Says};
 use bytes::scan;
 
 // What a word says.
@@ -124,4 +124,17 @@ pub fn signed(bits: u64) -> i64
         return bits as i64;
     }
     -1 - ((0xffff_ffff_ffff_ffff - bits) as i64)
+}
+
+// The same where an i32 is wanted; 0 where none holds the number.
+pub fn signed32(bits: u64) -> i32
+    ensures { λ r. ⌜ Signed32Says bits r ⌝ }
+{
+    if bits < 0x8000_0000 {
+        return bits as i32;
+    }
+    if bits < 0xffff_ffff_8000_0000 {
+        return 0;
+    }
+    -1 - ((0xffff_ffff_ffff_ffff - bits) as i32)
 }
