@@ -3,6 +3,7 @@ use borrow.Author.Needs.{needs}
 use mathlib.Core.Path.{refl}
 use lib.Dec.{lit≤}
 use mir.Syntax.{w32}
+use Rattle.laws.specs.Blank.{blank}
 use Rattle.laws.specs.Bounds.{arg, ldw}
 use Rattle.polygon.specs.PolygonLaws.{in-range}
 use Rattle.run_polygon.proofs.triangle.Statement.{statement}
@@ -15,6 +16,7 @@ slice-aggregate-fill-runs-2 : tie.Need-slice-aggregate-fill-runs-2
 slice-aggregate-fill-runs-2 c = search needs
 
 fill-runs-requires : tie.Need-fill-runs-requires
+unfolding blank
 fill-runs-requires c κs =
     let s = c .before .before .before in
     let p0 = s .pre .0 in
