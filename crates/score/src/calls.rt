@@ -9,8 +9,20 @@ ghost use Rattle.refusal.specs.Lengths.{badPicture, badTable};
 ghost use Rattle.cover.specs.Cover.{badPlaces};
 ghost use Rattle.cover.specs.declared.Kind.the-variants.{Circle, Triangle};
 ghost use Rattle.score.specs.Scoring.{
-    badCount, badOpacity, badLevels, scoreAt, spanRefusal, pointRefusal, sweepRefusal, spanSumsRefusal, pointSumsRefusal, AlphaSweepSays,
-    CollectSpanSumsSays, CollectPointSumsSays, SpanScoreSays, PointScoreSays
+  badCount,
+  badOpacity,
+  badLevels,
+  scoreAt,
+  spanRefusal,
+  pointRefusal,
+  sweepRefusal,
+  spanSumsRefusal,
+  pointSumsRefusal,
+  AlphaSweepSays,
+  CollectSpanSumsSays,
+  CollectPointSumsSays,
+  SpanScoreSays,
+  PointScoreSays,
 };
 use crate::Collected;
 use crate::Request;
@@ -65,7 +77,14 @@ fn score_at(s: ShapeSums, request: Request, levels: &[f32]) -> Score
     }
 }
 
-fn span_refusal(kind: Kind, request: Request, levels: &[f32], w: usize, h: usize, table: &[f64]) -> u8
+fn span_refusal(
+    kind: Kind,
+    request: Request,
+    levels: &[f32],
+    w: usize,
+    h: usize,
+    table: &[f64],
+) -> u8
     ensures { λ r. ⌜ r ≡ spanRefusal kind request (now (levels .entry)) w h (now (table .entry)) ⌝ }
 {
     if refusal::bad_size(w, h) {
@@ -81,7 +100,14 @@ fn span_refusal(kind: Kind, request: Request, levels: &[f32], w: usize, h: usize
 }
 
 // The score of a shape from a table, at one opacity or over the first of the lent levels.
-pub fn span_score(kind: Kind, request: Request, levels: &[f32], w: usize, h: usize, table: &[f64]) -> Scored
+pub fn span_score(
+    kind: Kind,
+    request: Request,
+    levels: &[f32],
+    w: usize,
+    h: usize,
+    table: &[f64],
+) -> Scored
     ensures { λ r. ⌜ SpanScoreSays kind request (now (levels .entry)) w h (now (table .entry)) r ⌝ }
 {
     let no = span_refusal(kind, request, levels, w, h, table);
