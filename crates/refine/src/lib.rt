@@ -353,3 +353,69 @@ fn answer(c: Course) -> Refined
         acceptances: c.acceptances,
     }
 }
+
+// ---- the whole
+
+// Trial k takes candidate k. The candidates lie here alone: one at a time is handed on. Refused: no lent number has changed.
+pub fn refine_shapes(
+    list: Shapes,
+    candidates: Candidates,
+    passes: usize,
+    red: f32,
+    green: f32,
+    blue: f32,
+    w: usize,
+    h: usize,
+    target: &[f32],
+    first: &mut [f32],
+    second: &mut [f32],
+) -> Refined
+    ensures { λ r. ⌜ RefineShapesSays w h red green blue (now (target .entry)) list candidates passes (now (first .entry)) (now (second .entry)) r (now (first .exit)) (now (second .exit)) ⌝ }
+{
+    let n = list.count;
+    let offers = candidates.count;
+    let number = size_refusal(
+        w,
+        h,
+        target.len(),
+        first.len(),
+        second.len(),
+        n,
+        offers,
+        passes,
+    );
+    if number != 0 {
+        return refuse(number, list);
+    }
+    let mut ranges = shapes::look_through(list);
+    let mut i = 0;
+    while i < offers {
+        let slot = candidates.slots[i];
+        let what = slot.what;
+        ranges = shapes::look_at(ranges, what);
+        i += 1;
+    }
+    let number = range_refusal(ranges, red, green, blue, target);
+    if number != 0 {
+        return refuse(number, list);
+    }
+    let mut c = start(w, h, red, green, blue, target, list, first);
+    let mut limit = most(n, passes);
+    while c.passes < limit {
+        let before = c.acceptances;
+        c = restart(w, h, red, green, blue, c, first);
+        let mut t = 0;
+        while t < n {
+            let k = c.trials;
+            let slot = candidates.slots[k];
+            let what = slot.what;
+            let what = offer(k < offers, what);
+            c = step(w, h, target, c, what, first, second);
+            t += 1;
+        }
+        limit = still(c, before, limit);
+    }
+    let final_list = c.list;
+    finish(w, h, red, green, blue, final_list, first, second);
+    answer(c)
+}
