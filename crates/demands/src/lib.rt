@@ -1,0 +1,1 @@
+// The demands, as theorems, in specs/. There is no code.
