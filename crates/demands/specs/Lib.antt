@@ -1,0 +1,7 @@
+-- The demands, each sentence a theorem.
+pub mod Demand3
+-- The words that they use.
+pub mod PaintCalls
+-- What they rest on.
+pub mod KeepLaws
+pub mod OnceLaws
