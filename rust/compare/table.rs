@@ -106,7 +106,7 @@ pub fn comparisons() -> Vec<Comparison> {
         Comparison {
             name: "table: build",
             numbers: "seed w h target+ canvas+ table+ bad-pixel",
-            cost: 2000,
+            cost: 500,
             fixed: |see| {
                 for w in 1..=6 {
                     for h in 1..=6 {
@@ -126,7 +126,7 @@ pub fn comparisons() -> Vec<Comparison> {
         Comparison {
             name: "table: update_canvas_rows",
             numbers: "seed w h ymin ymax",
-            cost: 2000,
+            cost: 500,
             fixed: |see| {
                 for (w, h) in [(2, 3), (3, 1), (1, 4)] {
                     for ymin in -5..=6 {
