@@ -1,0 +1,104 @@
+-- Rules: how the running state is held: its numbers by value, two pictures and a table at the front of what is lent; and what a step promises.
+use mathlib.Core.Path.{_≡_}
+use mathlib.Core.Bool.{Bool, false, cond}
+use mathlib.Core.List.{List}
+use Prim.Native.Nat.{ℕ, _+_, _*_, _≤_}
+use lib.Dec.{T, eqb}
+use lib.ListN.{length, take, drop}
+use lib.Ieee.{Float}
+use Rattle.float.specs.Within.{allWithin}
+use Rattle.table.specs.Table.{Table}
+use Rattle.frame.specs.declared.Frame.{Frame}
+use Rattle.frame.specs.declared.Frame.the-variants as frame
+use Rattle.frame.specs.Frames as frames
+use Rattle.frame.specs.declared.Answer.{Answer}
+use Rattle.session.specs.declared.State.{State}
+use Rattle.session.specs.declared.Request.{Request}
+use Rattle.session.specs.declared.Request.the-variants.{New, Row, Score, Paint}
+use Rattle.session.specs.declared.Asked.{Asked}
+use Rattle.session.specs.declared.Asked.the-variants.{Of, Bad}
+use Rattle.session.specs.declared.Stepped.{Stepped}
+use Rattle.session.specs.Session.{Session, nothing, drawing, after, answer}
+
+-- ---- a picture with its table, each at exactly its size
+pub record Sides (w h : ℕ) : Type 0 where
+  pub w-low : 1 ≤ w
+  pub w-high : w ≤ 16
+  pub h-low : 1 ≤ h
+  pub h-high : h ≤ 16
+
+pub record Sheet (w h : ℕ) (target canvas table : List Float) : Type 0 where
+  pub sides : Sides w h
+  pub target-size : length target ≡ h * w * 3
+  pub canvas-size : length canvas ≡ h * w * 3
+  pub sums : Table w h target canvas table
+  pub targets : T (allWithin target)
+
+-- ---- what is lent, and what stands at its front. No picture is held as width 0
+abbrev pub pictureSize : State → ℕ
+pictureSize s = s .h * s .w * 3
+
+abbrev pub tableSize : State → ℕ
+tableSize s = s .h * (s .w + 1) * 15
+
+abbrev pub noPicture : State
+noPicture = record { w = 0; h = 0; painted = false }
+
+pub data Standing (s : State) (target canvas table : List Float) : Type 0 where
+  none : s ≡ noPicture → Standing s target canvas table
+  some : Sheet (s .w) (s .h) (take (pictureSize s) target) (take (pictureSize s) canvas) (take (tableSize s) table)
+      → (s .painted ≡ false → T (allWithin (take (pictureSize s) canvas))) → Standing s target canvas table
+
+pub record Holds (s : State) (target canvas table : List Float) : Type 0 where
+  pub target-room : length target ≡ 768
+  pub canvas-room : length canvas ≡ 768
+  pub table-room : length table ≡ 4080
+  pub standing : Standing s target canvas table
+
+unfoldable pub sessionOf : State → List Float → List Float → Session
+sessionOf s target canvas =
+    cond (eqb (s .w) 0) nothing (drawing (s .w) (s .h) (s .painted) (take (pictureSize s) target) (take (pictureSize s) canvas))
+
+-- ---- a request by value: the pixels of a row stand among the frame's bytes, from the third on
+abbrev pub requestOf : Request → List ℕ → frames.Request
+requestOf (New w h r g b) bytes = frames.new w h r g b
+requestOf (Row y n) bytes = frames.row y (take n (drop 2 bytes))
+requestOf (Score kind opacity) bytes = frames.score kind opacity
+requestOf (Paint kind opacity) bytes = frames.paint kind opacity
+
+-- they are all there
+abbrev pub Carried : Request → List ℕ → Type 0
+Carried (New w h r g b) bytes = Unit {0}
+Carried (Row y n) bytes = 2 + n ≤ length bytes
+Carried (Score kind opacity) bytes = Unit {0}
+Carried (Paint kind opacity) bytes = Unit {0}
+
+-- a decoded frame is a request or a refusal number
+abbrev pub askedOf : Frame → Asked
+askedOf (frame.New w h r g b) = Of (New w h r g b)
+askedOf (frame.Row y n) = Of (Row y n)
+askedOf (frame.Score kind opacity) = Of (Score kind opacity)
+askedOf (frame.Paint kind opacity) = Of (Paint kind opacity)
+askedOf (frame.Bad k) = Bad k
+
+abbrev pub stepped : State → Answer → Stepped
+stepped s a = record { state = s; answer = a }
+
+-- ---- the promises
+abbrev pub StartSays : State → Type 0
+StartSays r = r ≡ noPicture
+
+abbrev pub AskSays : Frame → Asked → Type 0
+AskSays f r = r ≡ askedOf f
+
+-- the rule's step from the state held before to the state held after; what lies behind the pictures and the table stays
+pub record StepTakes (s : State) (q : frames.Request) (target canvas table : List Float) (r : Stepped) (target′ canvas′ table′ : List Float) : Type 0 where
+  pub answered : r .answer ≡ answer (sessionOf s target canvas) q
+  pub session : sessionOf (r .state) target′ canvas′ ≡ after (sessionOf s target canvas) q
+  pub holds : Holds (r .state) target′ canvas′ table′
+  pub target-rest : drop (pictureSize (r .state)) target′ ≡ drop (pictureSize (r .state)) target
+  pub canvas-rest : drop (pictureSize (r .state)) canvas′ ≡ drop (pictureSize (r .state)) canvas
+  pub table-rest : drop (tableSize (r .state)) table′ ≡ drop (tableSize (r .state)) table
+
+abbrev pub StepSays : State → Request → List ℕ → List Float → List Float → List Float → Stepped → List Float → List Float → List Float → Type 0
+StepSays s q bytes target canvas table r target′ canvas′ table′ = StepTakes s (requestOf q bytes) target canvas table r target′ canvas′ table′
