@@ -1,2 +1,6 @@
 pub mod Exports
+pub mod Answers
+pub mod Pictures
+pub mod Tables
 pub mod ExportLaws
+pub mod SliceLaws
