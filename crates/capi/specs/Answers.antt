@@ -21,7 +21,22 @@ refusedBy number = record {
   total = nought;
 }
 
--- an answer with another colour, another total
+-- an answer with another score, another colour, another total
+abbrev pub withScore : SillbadgerAnswer → ℕ → Float → Float → Float → Float → Float → SillbadgerAnswer
+withScore a count opacity change red green blue = record {
+  refusal = a .refusal;
+  count = count;
+  opacity = opacity;
+  change = change;
+  red = red;
+  green = green;
+  blue = blue;
+  passes = a .passes;
+  trials = a .trials;
+  acceptances = a .acceptances;
+  total = a .total;
+}
+
 abbrev pub withColour : SillbadgerAnswer → Float → Float → Float → SillbadgerAnswer
 withColour a red green blue = record {
   refusal = a .refusal;

@@ -25,6 +25,7 @@ use cover::Ended;
 use cover::Kind;
 
 pub mod pictures;
+pub mod scores;
 pub mod tables;
 
 // What a call answers. A refused call has its number, and all else is 0; a call that is done has 0, and what it works
