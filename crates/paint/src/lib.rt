@@ -1,0 +1,113 @@
+// The paint call: a shape is blended into the picture, then the table is updated over the shape's row reach.
+ghost use mathlib.Core.Path.{_≡_};
+ghost use mathlib.Core.Bool.{false};
+ghost use lib.ListN.{length};
+ghost use Rattle.cover.specs.Cover.{badPlaces};
+ghost use Rattle.paint.specs.Paint.{lengthsRefusal, paintRefusal, Painted, PaintSays};
+use cover::Kind;
+
+// Refusals: 1 size, 2 a length, 4 place, 5 opacity, 6 colour; then no number of `canvas` or `table` has changed. 0 is done.
+pub fn paint(
+    kind: Kind,
+    opacity: f32,
+    red: f32,
+    green: f32,
+    blue: f32,
+    w: usize,
+    h: usize,
+    target: &[f32],
+    canvas: &mut [f32],
+    table: &mut [f64],
+) -> u8
+    ensures { λ r. ⌜ PaintSays kind opacity red green blue w h (now (target .entry)) (now (canvas .entry)) (now (table .entry)) r (now (canvas .exit)) (now (table .exit)) ⌝ }
+{
+    let number = paint_refusal(
+        kind,
+        opacity,
+        red,
+        green,
+        blue,
+        w,
+        h,
+        target.len(),
+        canvas.len(),
+        table.len(),
+    );
+    if number != 0 {
+        return number;
+    }
+    paint_both(kind, opacity, red, green, blue, w, h, target, canvas, table);
+    0
+}
+
+// Size, then the lengths of what is lent.
+fn lengths_refusal(w: usize, h: usize, target: usize, canvas: usize, table: usize) -> u8
+    ensures { λ r. ⌜ r ≡ lengthsRefusal w h target canvas table ⌝ }
+{
+    if refusal::bad_size(w, h) {
+        return refusal::SIZE;
+    }
+    if refusal::bad_picture(w, h, target) {
+        return refusal::LENGTH;
+    }
+    if refusal::bad_picture(w, h, canvas) {
+        return refusal::LENGTH;
+    }
+    if refusal::bad_table(w, h, table) {
+        return refusal::LENGTH;
+    }
+    0
+}
+
+// Every test, in the order of the numbers.
+fn paint_refusal(
+    kind: Kind,
+    opacity: f32,
+    red: f32,
+    green: f32,
+    blue: f32,
+    w: usize,
+    h: usize,
+    target: usize,
+    canvas: usize,
+    table: usize,
+) -> u8
+    ensures { λ r. ⌜ r ≡ paintRefusal kind opacity red green blue w h target canvas table ⌝ }
+{
+    let number = lengths_refusal(w, h, target, canvas, table);
+    if number != 0 {
+        return number;
+    }
+    if cover::bad_places(kind) {
+        return refusal::PLACE;
+    }
+    if !float::within(opacity) {
+        return refusal::OPACITY;
+    }
+    if picture::bad_colour(red, green, blue) {
+        return refusal::COLOUR;
+    }
+    0
+}
+
+// The picture, then the table. The reach's own ends are handed on, so an end above the picture redoes every row.
+fn paint_both(
+    kind: Kind,
+    opacity: f32,
+    red: f32,
+    green: f32,
+    blue: f32,
+    w: usize,
+    h: usize,
+    target: &[f32],
+    canvas: &mut [f32],
+    table: &mut [f64],
+)
+    requires sizes { ⌜ lengthsRefusal w h (length (now target)) (length (now canvas)) (length (now table)) ≡ 0 ⌝ }
+    requires places { ⌜ badPlaces kind ≡ false ⌝ }
+    ensures { λ _. ⌜ Painted kind opacity red green blue w h (now (target .entry)) (now (canvas .entry)) (now (table .entry)) (now (canvas .exit)) (now (table .exit)) ⌝ }
+{
+    picture::blend(kind, opacity, red, green, blue, w, h, canvas);
+    let reach = cover::row_reach(kind, h);
+    table::update_canvas_rows(target, canvas, w, h, table, reach.first, reach.last);
+}
