@@ -1,9 +1,11 @@
 -- Rules: the answer of an export of which more than a number comes back: "A refused call returns its number with every other part of the answer zero".
-use mathlib.Core.Bool.{cond}
+use mathlib.Core.Bool.{true, cond}
+use mathlib.Core.List.{[], _∷_}
 use Prim.Native.Nat.{ℕ}
 use lib.Dec.{eqb}
 use lib.Ieee.{Float}
 use Rattle.float.specs.Within.{nought}
+use Rattle.refusal.specs.Refusals.{lowest, sizeIf, lengthIf, badSize}
 use Rattle.capi.specs.declared.SillbadgerAnswer.{SillbadgerAnswer}
 
 abbrev pub refusedBy : ℕ → SillbadgerAnswer
@@ -77,3 +79,7 @@ totalTold total = withTotal (refusedBy 0) total
 -- the answer, from the refusal's number and what a call that is done answers
 abbrev pub answered : ℕ → SillbadgerAnswer → SillbadgerAnswer
 answered number done = cond (eqb number 0) done (refusedBy number)
+
+-- no kind of shape has as many coordinates as were lent: 2 holds, so only 1 can be lower
+abbrev pub shapeless : ℕ → ℕ → ℕ
+shapeless w h = lowest (sizeIf (badSize w h) ∷ lengthIf true ∷ [])

@@ -24,9 +24,8 @@ use Rattle.score.specs.declared.Request.the-variants.{Opacity}
 use Rattle.score.specs.Scoring.{spanRefusal, spanSums, scoreAt}
 use Rattle.score.specs.Scoring as scoring
 use Rattle.capi.specs.declared.SillbadgerAnswer.{SillbadgerAnswer}
-use Rattle.capi.specs.Answers.{refusedBy, answered}
+use Rattle.capi.specs.Answers.{refusedBy, shapeless, answered}
 use Rattle.capi.specs.Scores.{
-  shapeless,
   scoreTold,
   scoredTold,
   spanAnswer,

@@ -1,6 +1,6 @@
 -- Rules: the exports of scores. A shape crosses as a slice of coordinates; another length than 3, 6, 8 is refusal 2.
 use mathlib.Core.Path.{_≡_}
-use mathlib.Core.Bool.{true, not}
+use mathlib.Core.Bool.{not}
 use mathlib.Core.List.{List, [], _∷_}
 use mathlib.Core.Option.{Option, none, some}
 use Prim.Native.Nat.{ℕ}
@@ -21,11 +21,7 @@ use Rattle.score.specs.Finalize.{finalized}
 use Rattle.score.specs.Scoring.{spanSums, scoreAt, spanRefusal}
 use Rattle.crossing.specs.Outlines.{kindOf}
 use Rattle.capi.specs.declared.SillbadgerAnswer.{SillbadgerAnswer}
-use Rattle.capi.specs.Answers.{refusedBy, withScore, answered}
-
--- no kind of shape has so many coordinates: 2 holds, so only 1 can be lower
-abbrev pub shapeless : ℕ → ℕ → ℕ
-shapeless w h = lowest (sizeIf (badSize w h) ∷ lengthIf true ∷ [])
+use Rattle.capi.specs.Answers.{refusedBy, shapeless, withScore, answered}
 
 abbrev pub scoreTold : Score → SillbadgerAnswer
 scoreTold s = withScore (refusedBy 0) (s .count) (s .opacity) (s .change) (s .red) (s .green) (s .blue)

@@ -5,7 +5,7 @@
 ghost use mathlib.Core.Path.{_≡_};
 ghost use lib.IntN.{pos, negℤ};
 ghost use Rattle.cover.specs.Cover.{count, rowEnds, refusalOf};
-ghost use Rattle.capi.specs.Answers.{refusedBy};
+ghost use Rattle.capi.specs.Answers.{refusedBy, shapeless};
 ghost use Rattle.capi.specs.Exports.{
   exported,
   endOf,
@@ -24,6 +24,7 @@ use cover::Counted;
 use cover::Ended;
 use cover::Kind;
 
+pub mod painting;
 pub mod pictures;
 pub mod scores;
 pub mod tables;
@@ -62,6 +63,16 @@ fn refused(number: u8) -> SillbadgerAnswer
         acceptances: 0,
         total: 0.0,
     }
+}
+
+// No kind of shape has as many coordinates as were lent.
+fn no_shape(w: u32, h: u32) -> u8
+    ensures { λ r. ⌜ r ≡ shapeless w h ⌝ }
+{
+    if refusal::bad_size(w as usize, h as usize) {
+        return refusal::SIZE;
+    }
+    refusal::LENGTH
 }
 
 // The pattern of an f32 from that of an f64. Nothing is refused.

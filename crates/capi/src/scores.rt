@@ -1,9 +1,7 @@
 // Exports of scores. A shape is a slice of coordinates: cx, cy, r, or the corners of a triangle or a quad, x and y of each.
 ghost use mathlib.Core.Path.{_≡_};
 ghost use Rattle.crossing.specs.Outlines.{kindOf};
-ghost use Rattle.capi.specs.Answers.{refusedBy};
 ghost use Rattle.capi.specs.Scores.{
-  shapeless,
   scoredTold,
   spanAnswer,
   SillbadgerSpanScoreSays,
@@ -13,16 +11,6 @@ use crate::SillbadgerAnswer;
 use crossing::Outlined;
 use score::Request;
 use score::Scored;
-
-// No kind of shape has so many coordinates.
-fn no_shape(w: u32, h: u32) -> SillbadgerAnswer
-    ensures { λ r. ⌜ r ≡ refusedBy (shapeless w h) ⌝ }
-{
-    if refusal::bad_size(w as usize, h as usize) {
-        return crate::refused(refusal::SIZE);
-    }
-    crate::refused(refusal::LENGTH)
-}
 
 fn told(s: Scored) -> SillbadgerAnswer
     ensures { λ r. ⌜ r ≡ scoredTold s ⌝ }
@@ -57,7 +45,7 @@ fn span_at(
         Outlined::Known(kind) => {
             told(score::calls::span_score(kind, request, levels, w as usize, h as usize, table))
         }
-        Outlined::Unknown => no_shape(w, h),
+        Outlined::Unknown => crate::refused(crate::no_shape(w, h)),
     }
 }
 

@@ -3,6 +3,7 @@ use mathlib.Core.Path.{ap, _∙_}
 use mathlib.Core.Option.{Option}
 use Rattle.cover.specs.declared.Kind.{Kind}
 use Rattle.score.specs.Scoring.{spanRefusal, spanSums, scoreAt}
+use Rattle.capi.specs.Answers.{refusedBy}
 use Rattle.capi.specs.Scores.{spanAnswer}
 use Rattle.capi.specs.ScoreLaws.{tells-score}
 use borrow.Author.Needs.{needs}
@@ -27,6 +28,9 @@ enum-told c = search needs
 no-shape-requires : tie.Need-no-shape-requires
 no-shape-requires c κs = search needs
 
+refused-requires : tie.Need-refused-requires
+refused-requires c κs = search needs
+
 returns : tie.Need-returns
 returns c =
     let q = c .before in
@@ -40,10 +44,11 @@ returns c =
 
 returns-2 : tie.Need-returns-2
 returns-2 c =
-    let o = c .before .before .before in
+    let o = c .before .before .before .before in
     let a = o .before .before .before .args in
-    c .no-shape .ensures
-    ∙ ap (λ (k : Option Kind). spanAnswer (a .w) (a .h) k (a .request) (a .levels .now) (a .table .now)) (rw (c .before .enum-told .given .1) at (o .outline .ensures))
+    c .refused .ensures
+    ∙ ap refusedBy (c .before .no-shape .ensures)
+    ∙ ap (λ (k : Option Kind). spanAnswer (a .w) (a .h) k (a .request) (a .levels .now) (a .table .now)) (rw (c .before .before .enum-told .given .1) at (o .outline .ensures))
 
 pub span-at-spec : {M : Type 1} → statement M
 span-at-spec =
@@ -55,5 +60,6 @@ span-at-spec =
     told-requires
     enum-told
     no-shape-requires
+    refused-requires
     returns
     returns-2)
