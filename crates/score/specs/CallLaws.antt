@@ -2,14 +2,15 @@
 use mathlib.Core.Path.{_≡_, refl, sym, _∙_, ap}
 use mathlib.Core.Bool.{Bool, true, false, not, _||_, cond}
 use mathlib.Core.List.{List, [], _∷_}
-use Prim.Native.Nat.{ℕ, _+_, _*_}
+use Prim.Native.Nat.{ℕ, _+_, _*_, _≤_}
+use native.Mathlib.Omega.{arith}
 use borrow.Author.Tests.{eq-eqb, ne-eqb, eqb-true, not-false}
 use lib.Dec.{T, eqb}
 use lib.ListN.{length}
 use lib.Ieee.{Float}
 use Rattle.laws.specs.Bools.{or-left, or-right}
 use Rattle.refusal.specs.Refusals.{Test, Sized, lowest, sizeIf, lengthIf, countIf, placeIf, opacityIf, badSize}
-use Rattle.refusal.specs.RefusalLaws.{above, lowest-skip, lowest-take, lowest-none, sized}
+use Rattle.refusal.specs.RefusalLaws.{above, lowest-skip, lowest-take, lowest-none, lowest-empty, sized}
 use Rattle.refusal.specs.Lengths.{badPicture, badTable}
 use Rattle.cover.specs.declared.Kind.{Kind}
 use Rattle.cover.specs.Cover.{badPlaces}
@@ -17,7 +18,13 @@ use Rattle.score.specs.declared.Score.{Score}
 use Rattle.score.specs.declared.Scored.{Scored}
 use Rattle.score.specs.declared.Scored.the-variants.{Done, Refused}
 use Rattle.score.specs.declared.Request.{Request}
-use Rattle.score.specs.Scoring.{badCount, badOpacity, badLevels, spanRefusal, pointRefusal, answered}
+use Rattle.score.specs.declared.Request.the-variants.{Levels}
+use Rattle.score.specs.declared.Collected.{Collected}
+use Rattle.sums.specs.declared.ShapeSums.{ShapeSums}
+use Rattle.sums.specs.Sums.{noSums}
+use Rattle.refusal.specs.ThreeTests as three
+use Rattle.score.specs.ScoringLaws.{count-range}
+use Rattle.score.specs.Scoring.{badCount, badOpacity, badLevels, spanRefusal, pointRefusal, sweepRefusal, spanSumsRefusal, pointSumsRefusal, answered, noneCollected, collected}
 
 pub or-first : (a b : Bool) → a ≡ true → a || b ≡ true
 or-first a b h = ap (λ (t : Bool). t || b) h
@@ -87,3 +94,63 @@ answered-refused n k s e z = ap Refused e ∙ sym (ap (λ (b : Bool). cond b (Do
 
 pub answered-done : (n : ℕ) (s t : Score) → n ≡ 0 → t ≡ s → Done t ≡ answered n s
 answered-done n s t z e = ap Done e ∙ sym (ap (λ (b : Bool). cond b (Done s) (Refused n)) (eq-eqb n 0 z))
+
+-- ---- a sweep's tests: the length, the count, the levels
+module _ (levels : List Float) (n : ℕ) where
+  pub sweep-length : (length levels ≡ 64 → ⊥) → 2 ≡ sweepRefusal levels n
+  unfolding sweepRefusal
+  sweep-length h =
+      sym (lowest-take (lengthIf (badLevels levels)) (countIf (badCount (Levels n)) ∷ opacityIf (badOpacity (Levels n) levels) ∷ []) (ap not (ne-eqb (length levels) 64 h)) tt)
+
+  module _ (h : length levels ≡ 64) where
+    long : sweepRefusal levels n ≡ lowest (countIf (badCount (Levels n)) ∷ opacityIf (badOpacity (Levels n) levels) ∷ [])
+    unfolding sweepRefusal
+    long = lowest-skip (lengthIf (badLevels levels)) (countIf (badCount (Levels n)) ∷ opacityIf (badOpacity (Levels n) levels) ∷ []) (ap not (eq-eqb (length levels) 64 h))
+
+    pub sweep-count : badCount (Levels n) ≡ true → 3 ≡ sweepRefusal levels n
+    sweep-count g = sym (long ∙ lowest-take (countIf (badCount (Levels n))) (opacityIf (badOpacity (Levels n) levels) ∷ []) g tt)
+
+    pub sweep-opacity : badCount (Levels n) ≡ false → badOpacity (Levels n) levels ≡ true → 5 ≡ sweepRefusal levels n
+    sweep-opacity g k =
+        sym (long ∙ lowest-skip (countIf (badCount (Levels n))) (opacityIf (badOpacity (Levels n) levels) ∷ []) g ∙ lowest-take (opacityIf (badOpacity (Levels n) levels)) [] k tt)
+
+    pub sweep-none : badCount (Levels n) ≡ false → badOpacity (Levels n) levels ≡ false → 0 ≡ sweepRefusal levels n
+    sweep-none g k =
+        sym (long ∙ lowest-skip (countIf (badCount (Levels n))) (opacityIf (badOpacity (Levels n) levels) ∷ []) g ∙ lowest-skip (opacityIf (badOpacity (Levels n) levels)) [] k ∙ lowest-empty)
+
+  pub sweep-passed : sweepRefusal levels n ≡ 0 → (1 ≤ n) × (n ≤ length levels)
+  unfolding sweepRefusal
+  sweep-passed e =
+      let p = lowest-none (lengthIf (badLevels levels)) (countIf (badCount (Levels n)) ∷ opacityIf (badOpacity (Levels n) levels) ∷ []) tt e in
+      let q = lowest-none (countIf (badCount (Levels n))) (opacityIf (badOpacity (Levels n) levels) ∷ []) tt (p .1) in
+      let r = count-range n (q .0) in
+      (r .0, omega (arith, r .1, levels-length levels (p .0)))
+
+-- ---- sums that are collected
+pub span-sums-passed : (kind : Kind) (w h : ℕ) (table : List Float) → spanSumsRefusal kind w h table ≡ 0
+    → (badSize w h ≡ false) × (badTable w h (length table) ≡ false) × (badPlaces kind ≡ false)
+unfolding spanSumsRefusal
+span-sums-passed kind w h table e = three.passed (badSize w h) (badTable w h (length table)) (badPlaces kind) 4 (omega arith) e
+
+pub point-sums-passed : (kind : Kind) (w h : ℕ) (target canvas : List Float) → pointSumsRefusal kind w h target canvas ≡ 0
+    → (badSize w h ≡ false) × (badPicture w h (length target) || badPicture w h (length canvas) ≡ false) × (badPlaces kind ≡ false)
+unfolding pointSumsRefusal
+point-sums-passed kind w h target canvas e =
+    three.passed (badSize w h) (badPicture w h (length target) || badPicture w h (length canvas)) (badPlaces kind) 4 (omega arith) e
+
+-- both pictures have their lengths
+pub picture-lengths : (w h m n : ℕ) → badPicture w h m || badPicture w h n ≡ false → (m ≡ h * w * 3) × (n ≡ h * w * 3)
+picture-lengths w h m n e =
+    (picture-length w h m (or-left (badPicture w h m) (badPicture w h n) e), picture-length w h n (or-right (badPicture w h m) (badPicture w h n) e))
+
+pub none-collected : (k : ℕ) (s : ShapeSums) → s ≡ noSums → record { refused = k; sums = s } ≡ noneCollected k
+none-collected k s e = ap (λ (q : ShapeSums). record { refused = k; sums = q }) e
+
+pub collected-refused : (n k : ℕ) (r : Collected) (s : ShapeSums) → k ≡ n → (k ≡ 0 → ⊥) → r ≡ noneCollected k → r ≡ collected n s
+collected-refused n k r s e z g =
+    g ∙ ap noneCollected e ∙ sym (ap (λ (b : Bool). cond b (record { refused = 0; sums = s }) (noneCollected n)) (ne-eqb n 0 (λ q. z (e ∙ q))))
+
+pub collected-done : (n : ℕ) (s t : ShapeSums) → n ≡ 0 → t ≡ s → record { refused = 0; sums = t } ≡ collected n s
+collected-done n s t z e =
+    ap (λ (q : ShapeSums). record { refused = 0; sums = q }) e
+    ∙ sym (ap (λ (b : Bool). cond b (record { refused = 0; sums = s }) (noneCollected n)) (eq-eqb n 0 z))

@@ -10,7 +10,9 @@ use Rattle.laws.specs.PixelSums.{spanSum, pointSum}
 use Rattle.refusal.specs.Refusals.{Test, lowest, sizeIf, lengthIf, countIf, placeIf, opacityIf, badSize}
 use Rattle.refusal.specs.Lengths.{badPicture, badTable}
 use Rattle.float.specs.Within.{within, allWithin}
+use lib.IntN.{ℤ}
 use Rattle.cover.specs.declared.Kind.{Kind}
+use Rattle.cover.specs.declared.Kind.the-variants.{Circle, Triangle}
 use Rattle.cover.specs.Cover.{covered, badPlaces}
 use Rattle.sums.specs.declared.ShapeSums.{ShapeSums}
 use Rattle.sums.specs.Sums.{noSums, pixelSums, plus, minus}
@@ -97,8 +99,11 @@ pointSumsRefusal kind w h target canvas =
 abbrev pub answered : ℕ → Score → Scored
 answered number s = cond (eqb number 0) (Done s) (Refused number)
 
+abbrev pub noneCollected : ℕ → Collected
+noneCollected number = record { refused = number; sums = noSums }
+
 abbrev pub collected : ℕ → ShapeSums → Collected
-collected number s = cond (eqb number 0) (record { refused = 0; sums = s }) (record { refused = number; sums = noSums })
+collected number s = cond (eqb number 0) (record { refused = 0; sums = s }) (noneCollected number)
 
 -- ---- what the calls promise; what is lent is only read
 abbrev pub AlphaSweepSays : ShapeSums → List Float → ℕ → Scored → Type 0
@@ -117,3 +122,16 @@ SpanScoreSays kind request levels w h table r =
 abbrev pub PointScoreSays : Kind → Request → List Float → ℕ → ℕ → List Float → List Float → Scored → Type 0
 PointScoreSays kind request levels w h target canvas r =
     r ≡ answered (pointRefusal kind request levels w h target canvas) (scoreAt (pointSums kind w h target canvas) request levels)
+
+-- by points there is a circle and a triangle, each on plain numbers
+abbrev pub CirclePointScoreSays : ℤ → ℤ → ℤ → Request → List Float → ℕ → ℕ → List Float → List Float → Scored → Type 0
+CirclePointScoreSays cx cy r = PointScoreSays (Circle cx cy r)
+
+abbrev pub TrianglePointScoreSays : ℤ → ℤ → ℤ → ℤ → ℤ → ℤ → Request → List Float → ℕ → ℕ → List Float → List Float → Scored → Type 0
+TrianglePointScoreSays x0 y0 x1 y1 x2 y2 = PointScoreSays (Triangle x0 y0 x1 y1 x2 y2)
+
+abbrev pub CollectCircleSumsSays : ℤ → ℤ → ℤ → ℕ → ℕ → List Float → List Float → Collected → Type 0
+CollectCircleSumsSays cx cy r = CollectPointSumsSays (Circle cx cy r)
+
+abbrev pub CollectTriangleSumsSays : ℤ → ℤ → ℤ → ℤ → ℤ → ℤ → ℕ → ℕ → List Float → List Float → Collected → Type 0
+CollectTriangleSumsSays x0 y0 x1 y1 x2 y2 = CollectPointSumsSays (Triangle x0 y0 x1 y1 x2 y2)

@@ -16,7 +16,9 @@ use Rattle.laws.specs.EndsLaws.{Ended, ended}
 use Rattle.laws.specs.PixelSums.{addSpan, pointRow}
 use Rattle.laws.specs.RowFold.{rowsFrom}
 use Rattle.laws.specs.RowFoldLaws.{rows-none, rows-more, rows-same, rows-window, span-rows, point-rows, run-pixels}
+use lib.IntN.{ℤ}
 use Rattle.cover.specs.declared.Kind.{Kind}
+use Rattle.cover.specs.declared.Kind.the-variants.{Circle, Triangle}
 use Rattle.cover.specs.Cover.{covered}
 use Rattle.cover.specs.CoverLaws.{leftAt, rightAt, left-ends, right-ends, row-run, run-bounds}
 use Rattle.cover.specs.ReachRows.{reachRows}
@@ -29,7 +31,7 @@ use Rattle.score.specs.declared.Scored.{Scored}
 use Rattle.score.specs.declared.Collected.{Collected}
 use Rattle.score.specs.declared.Request.{Request}
 use Rattle.score.specs.RunSums.{runAdded, runLeft, runRight, runsAdded, pixelsAdded, pointsAdded, RunsFit}
-use Rattle.score.specs.Scoring.{spanSums, pointSums, pixelAt, badCount, AlphaSweepSays, CollectSpanSumsSays, CollectPointSumsSays, SpanScoreSays, PointScoreSays}
+use Rattle.score.specs.Scoring.{spanSums, pointSums, pixelAt, badCount, AlphaSweepSays, CollectSpanSumsSays, CollectPointSumsSays, SpanScoreSays, PointScoreSays, CirclePointScoreSays, TrianglePointScoreSays, CollectCircleSumsSays, CollectTriangleSumsSays}
 
 pub AlphaSweepSays-unique : (s : ShapeSums) (levels : List Float) (n : ℕ) (r q : Scored) → AlphaSweepSays s levels n r → AlphaSweepSays s levels n q → r ≡ q
 AlphaSweepSays-unique s levels n r q f g = f ∙ sym g
@@ -48,6 +50,22 @@ SpanScoreSays-unique kind request levels w h table r q f g = f ∙ sym g
 pub PointScoreSays-unique : (kind : Kind) (request : Request) (levels : List Float) (w h : ℕ) (target canvas : List Float) (r q : Scored)
     → PointScoreSays kind request levels w h target canvas r → PointScoreSays kind request levels w h target canvas q → r ≡ q
 PointScoreSays-unique kind request levels w h target canvas r q f g = f ∙ sym g
+
+pub CirclePointScoreSays-unique : (x y z : ℤ) (request : Request) (levels : List Float) (w h : ℕ) (target canvas : List Float) (r q : Scored)
+    → CirclePointScoreSays x y z request levels w h target canvas r → CirclePointScoreSays x y z request levels w h target canvas q → r ≡ q
+CirclePointScoreSays-unique x y z = PointScoreSays-unique (Circle x y z)
+
+pub TrianglePointScoreSays-unique : (a b c d e f : ℤ) (request : Request) (levels : List Float) (w h : ℕ) (target canvas : List Float) (r q : Scored)
+    → TrianglePointScoreSays a b c d e f request levels w h target canvas r → TrianglePointScoreSays a b c d e f request levels w h target canvas q → r ≡ q
+TrianglePointScoreSays-unique a b c d e f = PointScoreSays-unique (Triangle a b c d e f)
+
+pub CollectCircleSumsSays-unique : (x y z : ℤ) (w h : ℕ) (target canvas : List Float) (r q : Collected)
+    → CollectCircleSumsSays x y z w h target canvas r → CollectCircleSumsSays x y z w h target canvas q → r ≡ q
+CollectCircleSumsSays-unique x y z = CollectPointSumsSays-unique (Circle x y z)
+
+pub CollectTriangleSumsSays-unique : (a b c d e f : ℤ) (w h : ℕ) (target canvas : List Float) (r q : Collected)
+    → CollectTriangleSumsSays a b c d e f w h target canvas r → CollectTriangleSumsSays a b c d e f w h target canvas q → r ≡ q
+CollectTriangleSumsSays-unique a b c d e f = CollectPointSumsSays-unique (Triangle a b c d e f)
 
 -- a level count that is not refused
 pub count-range : (n : ℕ) → badCount (Levels n) ≡ false → (1 ≤ n) × (n ≤ 64)

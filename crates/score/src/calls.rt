@@ -7,7 +7,6 @@ ghost use lib.ListN.{length};
 ghost use Rattle.refusal.specs.Refusals.{lowest, sizeIf, lengthIf, countIf, placeIf, opacityIf, badSize};
 ghost use Rattle.refusal.specs.Lengths.{badPicture, badTable};
 ghost use Rattle.cover.specs.Cover.{badPlaces};
-ghost use Rattle.cover.specs.declared.Kind.the-variants.{Circle, Triangle};
 ghost use Rattle.score.specs.Scoring.{
   badCount,
   badOpacity,
@@ -18,11 +17,16 @@ ghost use Rattle.score.specs.Scoring.{
   sweepRefusal,
   spanSumsRefusal,
   pointSumsRefusal,
+  noneCollected,
   AlphaSweepSays,
   CollectSpanSumsSays,
   CollectPointSumsSays,
+  CollectCircleSumsSays,
+  CollectTriangleSumsSays,
   SpanScoreSays,
   PointScoreSays,
+  CirclePointScoreSays,
+  TrianglePointScoreSays,
 };
 use crate::Collected;
 use crate::Request;
@@ -116,4 +120,239 @@ pub fn span_score(
     }
     let sums = crate::spans::span_sums(kind, w, h, table);
     Scored::Done(score_at(sums, request, levels))
+}
+
+// One of the two pictures has another length. Sizes are tested before.
+fn bad_pictures(w: usize, h: usize, target: usize, canvas: usize) -> bool
+    requires { ⌜ (w ≤ 256) × (h ≤ 256) ⌝ }
+    ensures { λ r. ⌜ r ≡ badPicture w h target || badPicture w h canvas ⌝ }
+{
+    if refusal::bad_picture(w, h, target) {
+        return true;
+    }
+    refusal::bad_picture(w, h, canvas)
+}
+
+fn point_refusal(
+    kind: Kind,
+    request: Request,
+    levels: &[f32],
+    w: usize,
+    h: usize,
+    target: &[f32],
+    canvas: &[f32],
+) -> u8
+    ensures { λ r. ⌜ r ≡ pointRefusal kind request (now (levels .entry)) w h (now (target .entry)) (now (canvas .entry)) ⌝ }
+{
+    if refusal::bad_size(w, h) {
+        return refusal::SIZE;
+    }
+    if levels.len() != 64 {
+        return refusal::LENGTH;
+    }
+    if bad_pictures(w, h, target.len(), canvas.len()) {
+        return refusal::LENGTH;
+    }
+    request_refusal(kind, request, levels)
+}
+
+fn point_score(
+    kind: Kind,
+    request: Request,
+    levels: &[f32],
+    w: usize,
+    h: usize,
+    target: &[f32],
+    canvas: &[f32],
+) -> Scored
+    ensures { λ r. ⌜ PointScoreSays kind request (now (levels .entry)) w h (now (target .entry)) (now (canvas .entry)) r ⌝ }
+{
+    let no = point_refusal(kind, request, levels, w, h, target, canvas);
+    if no != 0 {
+        return Scored::Refused(no);
+    }
+    let sums = crate::points::point_sums(kind, w, h, target, canvas);
+    Scored::Done(score_at(sums, request, levels))
+}
+
+// The score of a circle from the two pictures, pixel by pixel. It takes plain numbers, so that no quad can be asked.
+pub fn circle_point_score(
+    cx: i32,
+    cy: i32,
+    r: i32,
+    request: Request,
+    levels: &[f32],
+    w: usize,
+    h: usize,
+    target: &[f32],
+    canvas: &[f32],
+) -> Scored
+    ensures { λ s. ⌜ CirclePointScoreSays cx cy r request (now (levels .entry)) w h (now (target .entry)) (now (canvas .entry)) s ⌝ }
+{
+    point_score(
+        Kind::Circle(cx, cy, r),
+        request,
+        levels,
+        w,
+        h,
+        target,
+        canvas,
+    )
+}
+
+// The same of a triangle.
+pub fn triangle_point_score(
+    x0: i32,
+    y0: i32,
+    x1: i32,
+    y1: i32,
+    x2: i32,
+    y2: i32,
+    request: Request,
+    levels: &[f32],
+    w: usize,
+    h: usize,
+    target: &[f32],
+    canvas: &[f32],
+) -> Scored
+    ensures { λ s. ⌜ TrianglePointScoreSays x0 y0 x1 y1 x2 y2 request (now (levels .entry)) w h (now (target .entry)) (now (canvas .entry)) s ⌝ }
+{
+    point_score(
+        Kind::Triangle(x0, y0, x1, y1, x2, y2),
+        request,
+        levels,
+        w,
+        h,
+        target,
+        canvas,
+    )
+}
+
+fn sweep_refusal(levels: &[f32], n: usize) -> u8
+    ensures { λ r. ⌜ r ≡ sweepRefusal (now (levels .entry)) n ⌝ }
+{
+    if levels.len() != 64 {
+        return refusal::LENGTH;
+    }
+    if bad_count(Request::Levels(n)) {
+        return refusal::COUNT;
+    }
+    if bad_opacity(Request::Levels(n), levels) {
+        return refusal::OPACITY;
+    }
+    0
+}
+
+// The best of the first n lent levels for sums that were collected before.
+pub fn alpha_sweep(s: ShapeSums, levels: &[f32], n: usize) -> Scored
+    ensures { λ r. ⌜ AlphaSweepSays s (now (levels .entry)) n r ⌝ }
+{
+    let no = sweep_refusal(levels, n);
+    if no != 0 {
+        return Scored::Refused(no);
+    }
+    Scored::Done(crate::sweep(s, levels, n))
+}
+
+fn span_sums_refusal(kind: Kind, w: usize, h: usize, table: &[f64]) -> u8
+    ensures { λ r. ⌜ r ≡ spanSumsRefusal kind w h (now (table .entry)) ⌝ }
+{
+    if refusal::bad_size(w, h) {
+        return refusal::SIZE;
+    }
+    if refusal::bad_table(w, h, table.len()) {
+        return refusal::LENGTH;
+    }
+    if cover::bad_places(kind) {
+        return refusal::PLACE;
+    }
+    0
+}
+
+fn point_sums_refusal(kind: Kind, w: usize, h: usize, target: &[f32], canvas: &[f32]) -> u8
+    ensures { λ r. ⌜ r ≡ pointSumsRefusal kind w h (now (target .entry)) (now (canvas .entry)) ⌝ }
+{
+    if refusal::bad_size(w, h) {
+        return refusal::SIZE;
+    }
+    if bad_pictures(w, h, target.len(), canvas.len()) {
+        return refusal::LENGTH;
+    }
+    if cover::bad_places(kind) {
+        return refusal::PLACE;
+    }
+    0
+}
+
+// Refused: no sums.
+fn no_sums(no: u8) -> Collected
+    ensures { λ r. ⌜ r ≡ noneCollected no ⌝ }
+{
+    let sums = ShapeSums::new();
+    Collected {
+        refused: no,
+        sums: sums,
+    }
+}
+
+// The sums of a shape from a table, for sweeps and scores at several opacities.
+pub fn collect_span_sums(kind: Kind, w: usize, h: usize, table: &[f64]) -> Collected
+    ensures { λ r. ⌜ CollectSpanSumsSays kind w h (now (table .entry)) r ⌝ }
+{
+    let no = span_sums_refusal(kind, w, h, table);
+    if no != 0 {
+        return no_sums(no);
+    }
+    let sums = crate::spans::span_sums(kind, w, h, table);
+    Collected {
+        refused: 0,
+        sums: sums,
+    }
+}
+
+fn collect_point_sums(kind: Kind, w: usize, h: usize, target: &[f32], canvas: &[f32]) -> Collected
+    ensures { λ r. ⌜ CollectPointSumsSays kind w h (now (target .entry)) (now (canvas .entry)) r ⌝ }
+{
+    let no = point_sums_refusal(kind, w, h, target, canvas);
+    if no != 0 {
+        return no_sums(no);
+    }
+    let sums = crate::points::point_sums(kind, w, h, target, canvas);
+    Collected {
+        refused: 0,
+        sums: sums,
+    }
+}
+
+// The sums of a circle from the two pictures, pixel by pixel.
+pub fn collect_circle_sums(
+    cx: i32,
+    cy: i32,
+    r: i32,
+    w: usize,
+    h: usize,
+    target: &[f32],
+    canvas: &[f32],
+) -> Collected
+    ensures { λ s. ⌜ CollectCircleSumsSays cx cy r w h (now (target .entry)) (now (canvas .entry)) s ⌝ }
+{
+    collect_point_sums(Kind::Circle(cx, cy, r), w, h, target, canvas)
+}
+
+// The same of a triangle.
+pub fn collect_triangle_sums(
+    x0: i32,
+    y0: i32,
+    x1: i32,
+    y1: i32,
+    x2: i32,
+    y2: i32,
+    w: usize,
+    h: usize,
+    target: &[f32],
+    canvas: &[f32],
+) -> Collected
+    ensures { λ s. ⌜ CollectTriangleSumsSays x0 y0 x1 y1 x2 y2 w h (now (target .entry)) (now (canvas .entry)) s ⌝ }
+{
+    collect_point_sums(Kind::Triangle(x0, y0, x1, y1, x2, y2), w, h, target, canvas)
 }
