@@ -14,6 +14,7 @@ use Rattle.shapes.specs.declared.Shapes.{Shapes}
 use Rattle.shapes.specs.Lists.{listed}
 use Rattle.shapes.specs.Ranges.{fits}
 use Rattle.refine.specs.declared.Course.{Course}
+use Rattle.refine.specs.declared.Refined.{Refined}
 use Rattle.refine.specs.Refinement.{Scene, Progress, drawn, next}
 
 -- a list whose shapes can be painted: the tests were passed
@@ -31,6 +32,10 @@ pub record Targeted (w h : ℕ) (target : List Float) : Type 0 where
 abbrev pub progressOf : Course → Progress Shape
 progressOf c = record { list = listed (c .list); place = c .place; passes = c .passes; trials = c .trials; acceptances = c .acceptances }
 
+-- before the first trial, the total of the list being old
+abbrev pub untried : Shapes → Float → Course
+untried list old = record { list = list; place = 0; passes = 0; trials = 0; acceptances = 0; made = 0; old = old }
+
 -- a trial without an acceptance, but for the pictures
 abbrev pub risen : Course → ℕ → Course
 risen c made = record { list = c .list; place = c .place + 1; passes = c .passes; trials = c .trials + 1; acceptances = c .acceptances; made = made; old = c .old }
@@ -38,6 +43,10 @@ risen c made = record { list = c .list; place = c .place + 1; passes = c .passes
 -- a pass begins
 abbrev pub restarted : Course → Course
 restarted c = record { list = c .list; place = 0; passes = c .passes + 1; trials = c .trials; acceptances = c .acceptances; made = 0; old = c .old }
+
+-- what is answered at the end
+abbrev pub answered : Course → Refined
+answered c = record { refusal = 0; shapes = c .list; passes = c .passes; trials = c .trials; acceptances = c .acceptances }
 
 -- at any time: `old` is the total of the list drawn
 pub record Kept (g : Scene Shape (List Float)) (size : ℕ) (c : Course) (first second : List Float) : Type 0 where

@@ -9,5 +9,6 @@ pub mod Courses
 pub mod RefinementLaws
 pub mod PartLaws
 pub mod CourseLaws
+pub mod CallLaws
 pub mod TestLaws
 pub mod AnswerLaws

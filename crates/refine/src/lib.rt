@@ -1,10 +1,10 @@
 // Refinement: shapes of a list are tried against candidates, and leave for one that lowers the total.
 ghost use mathlib.Core.Bool.{false, cond};
 ghost use mathlib.Core.List.{List, _++_};
-ghost use mathlib.Core.Option.{Option};
+ghost use mathlib.Core.Option.{Option, none};
 ghost use mathlib.Core.Path.{_≡_};
 ghost use Prim.Native.Nat.{ℕ, _+_, _*_, _<_, _≤_};
-ghost use lib.Dec.{T, ltb};
+ghost use lib.Dec.{T, eqb, ltb};
 ghost use lib.Ieee.{Float};
 ghost use lib.ListN.{length};
 ghost use lib.Seq.{slice};
@@ -12,12 +12,12 @@ ghost use Rattle.float.specs.Within.{allWithin};
 ghost use Rattle.refusal.specs.Refusals.{Sized, lowest};
 ghost use Rattle.picture.specs.Pixels.{badColour, filled, totalOf};
 ghost use Rattle.shapes.specs.declared.Shape.{Shape};
-ghost use Rattle.shapes.specs.Lists.{shapeIn};
+ghost use Rattle.shapes.specs.Lists.{listed, shapeIn};
 ghost use Rattle.shapes.specs.Ranges.{fits};
 ghost use Rattle.refine.specs.Refinement.{paintedOn};
 ghost use Rattle.refine.specs.Scenes.{shapePainted, sceneWith};
 ghost use Rattle.refine.specs.Tests.{sizeTests, rangeTests};
-ghost use Rattle.refine.specs.Courses.{Drawable, Targeted, risen, restarted, Held, Stepped, Ready};
+ghost use Rattle.refine.specs.Courses.{Drawable, Targeted, untried, risen, restarted, answered, Held, Stepped, Ready};
 ghost use Rattle.refine.specs.Answers.{told, refusedWith, RefineShapesSays};
 use shapes::Candidate;
 use shapes::Candidates;
@@ -173,4 +173,249 @@ fn step(
             }
         }
     }
+}
+
+// ---- refusals
+
+// Sizes, lengths and counts.
+fn size_refusal(
+    w: usize,
+    h: usize,
+    target: usize,
+    first: usize,
+    second: usize,
+    shapes: usize,
+    candidates: usize,
+    passes: usize,
+) -> u8
+    ensures { λ r. ⌜ r ≡ lowest (sizeTests w h target first second shapes candidates passes) ⌝ }
+{
+    if refusal::bad_size(w, h) {
+        return refusal::SIZE;
+    }
+    if refusal::bad_picture(w, h, target)
+        | refusal::bad_picture(w, h, first)
+        | refusal::bad_picture(w, h, second)
+    {
+        return refusal::LENGTH;
+    }
+    if (64 < shapes) | (1024 < candidates) | (16 < passes) {
+        return refusal::COUNT;
+    }
+    0
+}
+
+// What was listed and lent.
+fn range_refusal(r: Ranges, red: f32, green: f32, blue: f32, target: &[f32]) -> u8
+    ensures { λ n. ⌜ n ≡ lowest (rangeTests r red green blue (now (target .entry))) ⌝ }
+{
+    if !r.places {
+        return refusal::PLACE;
+    }
+    if !r.opacities {
+        return refusal::OPACITY;
+    }
+    if !r.colours | picture::bad_colour(red, green, blue) {
+        return refusal::COLOUR;
+    }
+    if !float::all_within(target) {
+        return refusal::PIXEL;
+    }
+    0
+}
+
+// The list as handed in, all else zero.
+fn refuse(number: u8, list: Shapes) -> Refined
+    ensures { λ r. ⌜ told r ≡ refusedWith number list ⌝ }
+{
+    Refined {
+        refusal: number,
+        shapes: list,
+        passes: 0,
+        trials: 0,
+        acceptances: 0,
+    }
+}
+
+// ---- before and after the trials
+
+// Nothing tried yet. The list is drawn for its total.
+fn start(
+    w: usize,
+    h: usize,
+    red: f32,
+    green: f32,
+    blue: f32,
+    target: &[f32],
+    list: Shapes,
+    first: &mut [f32],
+) -> Course
+    requires { ⌜ Drawable w h list × (badColour red green blue ≡ false) × Targeted w h (now target) × (length (now first) ≡ h * w * 3) ⌝ }
+    ensures { λ r. ⌜ r ≡ untried list (totalOf (now (target .entry)) (paintedOn (shapePainted w h) (filled w h red green blue) (listed list))) ⌝ }
+{
+    draw(w, h, red, green, blue, list, first);
+    let old = picture::total_within(target, first);
+    Course {
+        list,
+        place: 0,
+        passes: 0,
+        trials: 0,
+        acceptances: 0,
+        made: 0,
+        old,
+    }
+}
+
+// How many passes may be made: none with fewer than two shapes.
+fn most(n: usize, passes: usize) -> usize
+    ensures { λ r. ⌜ r ≡ cond (ltb n 2) 0 passes ⌝ }
+{
+    if n < 2 {
+        return 0;
+    }
+    passes
+}
+
+// A pass begins over the background.
+fn restart(
+    w: usize,
+    h: usize,
+    red: f32,
+    green: f32,
+    blue: f32,
+    c: Course,
+    first: &mut [f32],
+) -> Course
+    requires { ⌜ (c .passes < 16) × (length (now first) ≡ h * w * 3) ⌝ }
+    ensures { λ r. ⌜ (r ≡ restarted c) × (now (first .exit) ≡ filled w h red green blue) ⌝ }
+{
+    picture::fill(w, h, red, green, blue, first);
+    let list = c.list;
+    Course {
+        list,
+        place: 0,
+        passes: c.passes + 1,
+        trials: c.trials,
+        acceptances: c.acceptances,
+        made: 0,
+        old: c.old,
+    }
+}
+
+// A pass with no acceptance is the last.
+fn still(c: Course, before: usize, limit: usize) -> usize
+    ensures { λ r. ⌜ r ≡ cond (eqb (c .acceptances) before) (c .passes) limit ⌝ }
+{
+    if c.acceptances == before {
+        return c.passes;
+    }
+    limit
+}
+
+// Past the end of the candidates there is nothing.
+fn offer(here: bool, what: Candidate) -> Candidate
+    ensures { λ r. ⌜ shapeIn r ≡ cond here (shapeIn what) none ⌝ }
+{
+    if here {
+        return what;
+    }
+    Candidate::Nothing
+}
+
+// The list over the background, in both pictures.
+fn finish(
+    w: usize,
+    h: usize,
+    red: f32,
+    green: f32,
+    blue: f32,
+    list: Shapes,
+    first: &mut [f32],
+    second: &mut [f32],
+)
+    requires { ⌜ Drawable w h list × (badColour red green blue ≡ false) × (length (now first) ≡ h * w * 3) × (length (now second) ≡ h * w * 3) ⌝ }
+    ensures { λ _. ⌜ (now (first .exit) ≡ paintedOn (shapePainted w h) (filled w h red green blue) (listed list))
+        × (now (second .exit) ≡ paintedOn (shapePainted w h) (filled w h red green blue) (listed list)) ⌝ }
+{
+    draw(w, h, red, green, blue, list, first);
+    copy(first, second);
+}
+
+fn answer(c: Course) -> Refined
+    ensures { λ r. ⌜ r ≡ answered c ⌝ }
+{
+    let shapes = c.list;
+    Refined {
+        refusal: 0,
+        shapes,
+        passes: c.passes,
+        trials: c.trials,
+        acceptances: c.acceptances,
+    }
+}
+
+// ---- the whole
+
+// Trial k takes candidate k. The candidates lie here alone: one at a time is handed on. Refused: no lent number has changed.
+pub fn refine_shapes(
+    list: Shapes,
+    candidates: Candidates,
+    passes: usize,
+    red: f32,
+    green: f32,
+    blue: f32,
+    w: usize,
+    h: usize,
+    target: &[f32],
+    first: &mut [f32],
+    second: &mut [f32],
+) -> Refined
+    ensures { λ r. ⌜ RefineShapesSays w h red green blue (now (target .entry)) list candidates passes (now (first .entry)) (now (second .entry)) r (now (first .exit)) (now (second .exit)) ⌝ }
+{
+    let n = list.count;
+    let offers = candidates.count;
+    let number = size_refusal(
+        w,
+        h,
+        target.len(),
+        first.len(),
+        second.len(),
+        n,
+        offers,
+        passes,
+    );
+    if number != 0 {
+        return refuse(number, list);
+    }
+    let mut ranges = shapes::look_through(list);
+    let mut i = 0;
+    while i < offers {
+        let slot = candidates.slots[i];
+        let what = slot.what;
+        ranges = shapes::look_at(ranges, what);
+        i += 1;
+    }
+    let number = range_refusal(ranges, red, green, blue, target);
+    if number != 0 {
+        return refuse(number, list);
+    }
+    let mut c = start(w, h, red, green, blue, target, list, first);
+    let mut limit = most(n, passes);
+    while c.passes < limit {
+        let before = c.acceptances;
+        c = restart(w, h, red, green, blue, c, first);
+        let mut t = 0;
+        while t < n {
+            let k = c.trials;
+            let slot = candidates.slots[k];
+            let what = slot.what;
+            let what = offer(k < offers, what);
+            c = step(w, h, target, c, what, first, second);
+            t += 1;
+        }
+        limit = still(c, before, limit);
+    }
+    let final_list = c.list;
+    finish(w, h, red, green, blue, final_list, first, second);
+    answer(c)
 }
