@@ -1,2 +1,10 @@
 pub mod Exports
+pub mod Answers
+pub mod Pictures
+pub mod Tables
+pub mod Scores
+pub mod Painting
 pub mod ExportLaws
+pub mod SliceLaws
+pub mod ScoreLaws
+pub mod PaintingLaws

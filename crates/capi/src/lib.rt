@@ -1,9 +1,11 @@
-// The C face for the Rust app: functions on numbers. Each answers one i64: the value, or -n for refusal n; a span
-// end of a row without a covered pixel is -9. Names start with sillbadger_. What only tests call is exported by the
-// crates `probe_NAME`.
+// The C face for the Rust app. Functions on numbers each answer one i64: the value, or -n for refusal n; a span end of a
+// row without a covered pixel is -9. Functions on lent slices stand in the modules; each answers the refusal's number, or
+// `SillbadgerAnswer` where more comes back. Names start with sillbadger_. What only tests call is exported by the crates
+// `probe_NAME`.
 ghost use mathlib.Core.Path.{_≡_};
 ghost use lib.IntN.{pos, negℤ};
 ghost use Rattle.cover.specs.Cover.{count, rowEnds, refusalOf};
+ghost use Rattle.capi.specs.Answers.{refusedBy, shapeless};
 ghost use Rattle.capi.specs.Exports.{
   exported,
   endOf,
@@ -21,6 +23,57 @@ ghost use Rattle.capi.specs.Exports.{
 use cover::Counted;
 use cover::Ended;
 use cover::Kind;
+
+pub mod painting;
+pub mod pictures;
+pub mod scores;
+pub mod tables;
+
+// What a call answers. A refused call has its number, and all else is 0; a call that is done has 0, and what it works
+// out: all that it does not work out is 0.
+#[repr(C)]
+pub struct SillbadgerAnswer {
+    pub refusal: u32,
+    pub count: u32,
+    pub opacity: f32,
+    pub change: f32,
+    pub red: f32,
+    pub green: f32,
+    pub blue: f32,
+    pub passes: u32,
+    pub trials: u32,
+    pub acceptances: u32,
+    pub total: f64,
+}
+
+// A refused call's answer.
+fn refused(number: u8) -> SillbadgerAnswer
+    ensures { λ r. ⌜ r ≡ refusedBy number ⌝ }
+{
+    SillbadgerAnswer {
+        refusal: number as u32,
+        count: 0,
+        opacity: 0.0,
+        change: 0.0,
+        red: 0.0,
+        green: 0.0,
+        blue: 0.0,
+        passes: 0,
+        trials: 0,
+        acceptances: 0,
+        total: 0.0,
+    }
+}
+
+// No kind of shape has as many coordinates as were lent.
+fn no_shape(w: u32, h: u32) -> u8
+    ensures { λ r. ⌜ r ≡ shapeless w h ⌝ }
+{
+    if refusal::bad_size(w as usize, h as usize) {
+        return refusal::SIZE;
+    }
+    refusal::LENGTH
+}
 
 // The pattern of an f32 from that of an f64. Nothing is refused.
 #[no_mangle]
