@@ -1,0 +1,85 @@
+use borrow.Author.Needs.{needs}
+use mathlib.Core.Path.{_≡_}
+use Prim.Native.Nat.{_≤_, _<_, _-_}
+use lib.ListN.{length}
+use native.Mathlib.Omega.{arith}
+use Rattle.run_refine.proofs.refined.Statement.{statement}
+use Rattle.run_refine.proofs.refined.Tie as tie
+use Rattle.refine.proofs.refine_shapes.Reads as refine-shapes-reads
+use Rattle.run_refine.proofs.channel.Reads as channel-reads
+use Rattle.run_refine.proofs.list_of.Reads as list-of-reads
+use Rattle.run_refine.proofs.offer.Reads as offer-reads
+
+abbrev Inv-loop : tie.InvT-loop
+Inv-loop seed w h n m passes target first second slots₀ i₀ slots i =
+    (i ≤ 1024) × (length slots ≡ 1024)
+
+abbrev μ-loop : tie.MeasureT-loop
+μ-loop seed w h n m passes target first second slots₀ i₀ slots i = 1024 - i
+
+loop-holds : tie.Need-loop-holds Inv-loop μ-loop
+loop-holds c = search needs
+
+offer-requires : tie.Need-offer-requires Inv-loop μ-loop
+offer-requires c κs = search needs
+
+mul-slots : tie.Need-mul-slots Inv-loop μ-loop
+mul-slots c = search needs
+
+array-set-from-slots : tie.Need-array-set-from-slots Inv-loop μ-loop
+array-set-from-slots c = search needs
+
+add-i : tie.Need-add-i Inv-loop μ-loop
+add-i c = search needs
+
+loop-less : tie.Need-loop-less Inv-loop μ-loop
+loop-less c = search needs
+
+loop-again : tie.Need-loop-again Inv-loop μ-loop
+loop-again c = search needs
+
+list-of-requires : tie.Need-list-of-requires Inv-loop μ-loop
+list-of-requires c κs = search needs
+
+channel-requires : tie.Need-channel-requires Inv-loop μ-loop
+channel-requires c κs = search needs
+
+channel-requires-2 : tie.Need-channel-requires-2 Inv-loop μ-loop
+channel-requires-2 c κs = search needs
+
+channel-requires-3 : tie.Need-channel-requires-3 Inv-loop μ-loop
+channel-requires-3 c κs = search needs
+
+refine-shapes-requires : tie.Need-refine-shapes-requires Inv-loop μ-loop
+refine-shapes-requires c κs = search needs
+
+same-length : tie.Need-same-length Inv-loop μ-loop
+same-length c = search needs
+
+same-length-2 : tie.Need-same-length-2 Inv-loop μ-loop
+same-length-2 c = search needs
+
+returns : tie.Need-returns Inv-loop μ-loop
+returns c = search needs
+
+pub refined-spec : {M : Type 1} → statement M
+refined-spec =
+    tie.close
+    (tie.spec
+    Inv-loop
+    μ-loop
+    loop-holds
+    offer-requires
+    mul-slots
+    array-set-from-slots
+    add-i
+    loop-less
+    loop-again
+    list-of-requires
+    channel-requires
+    channel-requires-2
+    channel-requires-3
+    refine-shapes-requires
+    same-length
+    same-length-2
+    returns)
