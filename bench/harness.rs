@@ -63,6 +63,7 @@ pub fn main(entries: Vec<Entry>) {
     let part = args.get(1).map(String::as_str).unwrap_or("");
     println!("{:44} {:>12} {:>12} {:>7}", "medians, for one call or pixel", "ours", "Rust", "ratio");
     let mut different = 0;
+    let mut sized: Vec<(String, String, f64, f64)> = Vec::new();
     for mut e in entries.into_iter().filter(|e| e.name.contains(part)) {
         // So many runs at a time that the clock's grain does not matter; this warms both up, too.
         let mut runs = 1;
@@ -86,6 +87,10 @@ pub fn main(entries: Vec<Entry>) {
         let each = runs as f64 * e.units as f64;
         let ratio = median(ours.iter().zip(&rust).map(|(a, b)| a / b).collect());
         let (a, b) = (median(ours) / each, median(rust) / each);
+        if let Some((stem, size)) = e.name.rsplit_once(", ").filter(|(_, size)| size.contains(" by ")) {
+            let units = e.units as f64;
+            sized.push((stem.to_string(), size.to_string(), a * units, b * units));
+        }
         println!(
             "{:44} {:>12} {:>12} {:>7.2}{}",
             e.name,
@@ -95,6 +100,29 @@ pub fn main(entries: Vec<Entry>) {
             if equal { "" } else { "  ANSWERS DIFFER" }
         );
         different += !equal as i32;
+    }
+    // What is there in several sizes: the whole call's cost, and by how much it grew from the size before.
+    let mut stems: Vec<String> = sized.iter().map(|s| s.0.clone()).collect();
+    stems.dedup();
+    stems.sort();
+    stems.dedup();
+    let mut printed = false;
+    for stem in stems {
+        let mine: Vec<_> = sized.iter().filter(|s| s.0 == stem).collect();
+        if mine.len() < 2 {
+            continue;
+        }
+        if !printed {
+            println!("\nhow a whole call's cost grows with the picture: ours (times the size before), Rust (the same)");
+            printed = true;
+        }
+        let mut line = format!("{stem}:");
+        for (i, s) in mine.iter().enumerate() {
+            let grown = |now: f64, before: f64| if i == 0 { String::new() } else { format!(" (x{:.1})", now / before) };
+            let before = if i == 0 { s } else { &mine[i - 1] };
+            line += &format!("  {}: {}{}, {}{}", s.1, shown(s.2), grown(s.2, before.2), shown(s.3), grown(s.3, before.3));
+        }
+        println!("{line}");
     }
     std::process::exit(if different > 0 { 1 } else { 0 });
 }
