@@ -49,7 +49,12 @@ fn sized(build: &'static str, update: &'static str, w: usize, h: usize) -> [Entr
 }
 
 pub fn entries() -> Vec<Entry> {
-    let small = sized("table build, 32 by 24", "table update, 32 by 24", 32, 24);
-    let large = sized("table build, 256 by 256", "table update, 256 by 256", 256, 256);
-    small.into_iter().chain(large).collect()
+    [
+        sized("table build, 16 by 16, a pixel", "table update, 16 by 16, a pixel", 16, 16),
+        sized("table build, 64 by 64, a pixel", "table update, 64 by 64, a pixel", 64, 64),
+        sized("table build, 256 by 256, a pixel", "table update, 256 by 256, a pixel", 256, 256),
+    ]
+    .into_iter()
+    .flatten()
+    .collect()
 }
