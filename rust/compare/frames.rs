@@ -3,9 +3,22 @@
 
 use crate::frames_reference::output;
 use crate::harness::{unequal, Comparison};
-use crate::sessions::{draw, session, EXAMPLE, EXAMPLE_OUTPUT};
+use crate::generator::Draw;
+use crate::sessions::{counted, EXAMPLE, EXAMPLE_OUTPUT};
 use std::io::Write;
 use std::process::{Command, Stdio};
+use std::sync::atomic::{AtomicU64, Ordering};
+
+/// How many damaged lines were answered so far; every million is told.
+static HARMED: AtomicU64 = AtomicU64::new(0);
+
+/// Long sessions: a process for each, and state that lives through thousands of frames.
+fn draw(d: &mut Draw, case: &mut Vec<i64>) {
+    let seed = d.below(1 << 40) as i64;
+    let most = d.one_of(&[10, 400, 4000]);
+    let damage = d.one_of(&[0, 10, 50, 90]);
+    case.extend([seed, d.between(0, most), damage, d.between(0, 1)]);
+}
 
 /// What `fit` writes. FIT names what runs it, a word a line.
 fn fit(input: &[u8]) -> Vec<String> {
@@ -27,7 +40,11 @@ fn fit(input: &[u8]) -> Vec<String> {
 
 /// The first line that differs, with its number, and both answers.
 fn differs(case: &[i64]) -> Option<(String, String)> {
-    let input = session(case);
+    let (input, harmed) = counted(case);
+    let before = HARMED.fetch_add(harmed, Ordering::Relaxed);
+    if (before + harmed) / 1_000_000 > before / 1_000_000 {
+        eprintln!("frames: {} damaged lines", before + harmed);
+    }
     let (ours, theirs) = (fit(&input), output(&input));
     let at = (0..ours.len().max(theirs.len())).find(|&i| ours.get(i) != theirs.get(i))?;
     let line = input.split(|b| *b == b'\n').nth(at).unwrap_or_default();
