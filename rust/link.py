@@ -43,30 +43,48 @@ def call(words, **more):
 SCALAR = r"(?:[ui](?:8|16|32|64|size)|f32|f64|bool)"
 
 
-def exports(crate):
-    """The functions that a crate exports, read from its source: the one place that declares them."""
-    path = os.path.join(ROOT, "crates", crate, "src", "lib.rt")
-    if not os.path.exists(path):
-        return []
-    text = re.sub(r"//[^\n]*", "", open(path, encoding="utf-8").read())
+def source(crate):
+    """All source of a crate."""
+    folder = os.path.join(ROOT, "crates", crate, "src")
+    names = sorted(os.listdir(folder), key=lambda n: (n != "lib.rt", n)) if os.path.isdir(folder) else []
+    texts = []
+    for name in names:
+        if name.endswith(".rt"):
+            with open(os.path.join(folder, name), encoding="utf-8") as f:
+                texts.append(f.read())
+    return "\n".join(texts)
+
+
+EXPORT = re.compile(r'((?:^//[^\n]*\n)*)#\[no_mangle\]\s*pub extern "C" fn (\w+)\s*\(([^)]*)\)\s*(?:->\s*([^\s{]+))?', re.M)
+
+
+def told(comments):
+    """The text of comment lines."""
+    return " ".join(line[2:].strip() for line in comments.splitlines())
+
+
+def documented(crate):
+    """The functions that a crate exports, each with its comment, read from its source: the one place that declares them."""
     found = []
-    for m in re.finditer(r'#\[no_mangle\]\s*pub extern "C" fn (\w+)\s*\(([^)]*)\)\s*(?:->\s*([^\s{]+))?', text):
+    for m in EXPORT.finditer(source(crate)):
         args = []
-        for arg in filter(None, (a.strip() for a in m.group(2).split(","))):
+        for arg in filter(None, (a.strip() for a in re.sub(r"//[^\n]*", "", m.group(3)).split(","))):
             name, kind = (part.strip() for part in arg.split(":", 1))
             args.append((name, kind))
-        found.append((m.group(1), args, m.group(3)))
+        found.append(((m.group(2), args, m.group(4)), told(m.group(1))))
     return found
+
+
+def exports(crate):
+    return [e for e, _ in documented(crate)]
+
+
+STRUCT = re.compile(r"((?:^//[^\n]*\n)*)#\[repr\(C\)\]\s*pub struct (\w+) \{([^}]*)\}", re.M)
 
 
 def structs(crate):
     """The `#[repr(C)]` structs of a crate, as Rust."""
-    path = os.path.join(ROOT, "crates", crate, "src", "lib.rt")
-    if not os.path.exists(path):
-        return {}
-    text = re.sub(r"//[^\n]*", "", open(path, encoding="utf-8").read())
-    found = re.finditer(r"#\[repr\(C\)\]\s*pub struct (\w+) \{[^}]*\}", text)
-    return {m.group(1): m.group(0).replace("pub struct", "#[derive(Clone, Copy, Debug)]\npub struct") for m in found}
+    return {m.group(2): f"#[derive(Clone, Copy, Debug, PartialEq)]\n#[repr(C)]\npub struct {m.group(2)} {{{m.group(3)}}}" for m in STRUCT.finditer(source(crate))}
 
 
 def bound(export, known):
@@ -104,23 +122,54 @@ def write(path, text):
             f.write(text)
 
 
+def module(crates, head):
+    """A Rust module with the exports of crates: the declarations, and a safe function over each."""
+    known = {name: text for crate in crates for name, text in structs(crate).items()}
+    pairs = [(bound(e, known), comment) for crate in crates for e, comment in documented(crate)]
+    declared = "\n".join(p[0] for p, _ in pairs)
+    safe = "\n".join((f"/// {comment}\n" if comment else "") + p[1] for p, comment in pairs)
+    return (
+        head
+        + "".join(text + "\n\n" for text in known.values())
+        + f"mod c {{\n    use super::*;\n    unsafe extern \"C\" {{\n{declared}\n    }}\n}}\n\n{safe}"
+    )
+
+
 def bindings(path):
     """Writes the Rust module `ours`, and answers the names in it."""
-    all_exports = [e for crate in exporting() for e in exports(crate)]
-    known = {name: text for crate in exporting() for name, text in structs(crate).items()}
-    pairs = [bound(e, known) for e in all_exports]
-    declared = "\n".join(p[0] for p in pairs)
-    safe = "\n".join(p[1] for p in pairs)
-    write(
-        path,
+    head = (
         "// Made by rust/link.py from the sources of the exporting crates.\n"
         "#![allow(dead_code)]\n"
         "#![allow(unused_imports)]\n"
         "#![allow(clippy::too_many_arguments)]\n\n"
-        + "".join(text + "\n\n" for text in known.values())
-        + f"mod c {{\n    use super::*;\n    unsafe extern \"C\" {{\n{declared}\n    }}\n}}\n\n{safe}",
     )
-    return {e[0] for e in all_exports}
+    write(path, module(exporting(), head))
+    return {e[0] for crate in exporting() for e in exports(crate)}
+
+
+C = {"u8": "uint8_t", "u16": "uint16_t", "u32": "uint32_t", "u64": "uint64_t", "usize": "size_t", "i8": "int8_t", "i16": "int16_t", "i32": "int32_t", "i64": "int64_t", "f32": "float", "f64": "double", "bool": "bool"}
+
+
+def header(crate):
+    """The C header of a crate's exports."""
+    text = [f"/* Made by `rust/check --write` from the source of the crate `{crate}`: not to be edited.", " * A slice is a pointer and the number of its elements; with 0 elements the pointer is not read. */", "#ifndef SILLBADGER_H", "#define SILLBADGER_H", "", "#include <stdbool.h>", "#include <stddef.h>", "#include <stdint.h>", "", "#ifdef __cplusplus", 'extern "C" {', "#endif", ""]
+    known = []
+    for m in STRUCT.finditer(source(crate)):
+        fields = re.findall(r"pub (\w+): (\w+),", m.group(3))
+        known.append(m.group(2))
+        text += [f"/* {told(m.group(1))} */", f"typedef struct {m.group(2)} {{", *[f"    {C[kind]} {name};" for name, kind in fields], f"}} {m.group(2)};", ""]
+    for (name, args, result), comment in documented(crate):
+        parts = []
+        for arg, kind in args:
+            part = re.fullmatch(rf"&(mut )?\[({SCALAR})\]", kind)
+            if part:
+                parts += [f"{'' if part.group(1) else 'const '}{C[part.group(2)]} *{arg}", f"size_t {arg}_count"]
+            else:
+                parts.append(f"{C.get(kind, kind)} {arg}")
+        back = C.get(result, result) if result else "void"
+        text += ([f"/* {comment} */"] if comment else []) + [f"{back} {name}({', '.join(parts)});", ""]
+    text += ["#ifdef __cplusplus", "}", "#endif", "", "#endif", ""]
+    return "\n".join(text)
 
 
 def archives(folder=None, only=None):

@@ -23,7 +23,7 @@ refusedBy number = record {
   total = nought;
 }
 
--- an answer with another score, another colour, another total
+-- an answer with another score, another colour, another total, other counts
 abbrev pub withScore : SillbadgerAnswer → ℕ → Float → Float → Float → Float → Float → SillbadgerAnswer
 withScore a count opacity change red green blue = record {
   refusal = a .refusal;
@@ -67,6 +67,21 @@ withTotal a total = record {
   trials = a .trials;
   acceptances = a .acceptances;
   total = total;
+}
+
+abbrev pub withCounts : SillbadgerAnswer → ℕ → ℕ → ℕ → SillbadgerAnswer
+withCounts a passes trials acceptances = record {
+  refusal = a .refusal;
+  count = a .count;
+  opacity = a .opacity;
+  change = a .change;
+  red = a .red;
+  green = a .green;
+  blue = a .blue;
+  passes = passes;
+  trials = trials;
+  acceptances = acceptances;
+  total = a .total;
 }
 
 -- a call that is done has number 0 and what it works out; the rest is 0

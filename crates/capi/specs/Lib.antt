@@ -4,7 +4,9 @@ pub mod Pictures
 pub mod Tables
 pub mod Scores
 pub mod Painting
+pub mod Refining
 pub mod ExportLaws
 pub mod SliceLaws
 pub mod ScoreLaws
 pub mod PaintingLaws
+pub mod RefiningLaws

@@ -26,6 +26,7 @@ use cover::Kind;
 
 pub mod painting;
 pub mod pictures;
+pub mod refining;
 pub mod scores;
 pub mod tables;
 
@@ -40,9 +41,9 @@ pub struct SillbadgerAnswer {
     pub red: f32,
     pub green: f32,
     pub blue: f32,
-    pub passes: u32,
-    pub trials: u32,
-    pub acceptances: u32,
+    pub passes: u64,
+    pub trials: u64,
+    pub acceptances: u64,
     pub total: f64,
 }
 

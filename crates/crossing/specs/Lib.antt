@@ -1,2 +1,4 @@
 pub mod Outlines
+pub mod Crossed
 pub mod OutlineLaws
+pub mod CrossedLaws

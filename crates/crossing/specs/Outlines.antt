@@ -1,6 +1,6 @@
 -- Rules: how a shape crosses the C border: a slice of coordinates whose length (3, 6, 8) says its kind.
 use mathlib.Core.Path.{_≡_}
-use mathlib.Core.Bool.{cond}
+use mathlib.Core.Bool.{Bool, cond, _||_}
 use mathlib.Core.List.{List}
 use mathlib.Core.Option.{Option, none, some}
 use Prim.Native.Nat.{ℕ}
@@ -12,26 +12,28 @@ use Rattle.cover.specs.declared.Kind.the-variants.{Circle, Triangle, Quad}
 use Rattle.crossing.specs.declared.Outlined.{Outlined}
 use Rattle.crossing.specs.declared.Outlined.the-variants.{Known, Unknown}
 
+-- some kind has so many coordinates
+abbrev pub sized : ℕ → Bool
+sized n = eqb n 3 || eqb n 6 || eqb n 8
+
 abbrev pub coordinate : List ℤ → ℕ → ℤ
 coordinate zs i = getD zs i (pos 0)
 
--- the first coordinates of a list as a shape of each kind
-abbrev pub circleOf : List ℤ → Kind
-circleOf zs = Circle (coordinate zs 0) (coordinate zs 1) (coordinate zs 2)
+-- the kind of 3, 6 or 8 coordinates, which come first
+unfoldable pub kindSized : ℕ → List ℤ → Kind
+kindSized n zs =
+    cond (eqb n 3) (Circle (coordinate zs 0) (coordinate zs 1) (coordinate zs 2))
+    (cond (eqb n 6)
+    (Triangle (coordinate zs 0) (coordinate zs 1) (coordinate zs 2) (coordinate zs 3) (coordinate zs 4) (coordinate zs 5))
+    (Quad (coordinate zs 0) (coordinate zs 1) (coordinate zs 2) (coordinate zs 3) (coordinate zs 4) (coordinate zs 5) (coordinate zs 6) (coordinate zs 7)))
 
-abbrev pub triangleOf : List ℤ → Kind
-triangleOf zs = Triangle (coordinate zs 0) (coordinate zs 1) (coordinate zs 2) (coordinate zs 3) (coordinate zs 4) (coordinate zs 5)
-
-abbrev pub quadOf : List ℤ → Kind
-quadOf zs =
-    Quad (coordinate zs 0) (coordinate zs 1) (coordinate zs 2) (coordinate zs 3) (coordinate zs 4) (coordinate zs 5) (coordinate zs 6) (coordinate zs 7)
-
--- the kind that a number of coordinates says
-unfoldable pub kindBy : ℕ → List ℤ → Option Kind
-kindBy n zs = cond (eqb n 3) (some (circleOf zs)) (cond (eqb n 6) (some (triangleOf zs)) (cond (eqb n 8) (some (quadOf zs)) none))
-
+-- the shape that a slice says, if it says one
 abbrev pub kindOf : List ℤ → Option Kind
-kindOf zs = kindBy (length zs) zs
+kindOf zs = cond (sized (length zs)) (some (kindSized (length zs) zs)) none
+
+-- how many of the coordinates are read
+abbrev pub wanted : ℕ → ℕ
+wanted n = cond (eqb n 3) 3 (cond (eqb n 6) 6 8)
 
 -- what an outline is
 abbrev pub kindIn : Outlined → Option Kind

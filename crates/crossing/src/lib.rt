@@ -1,6 +1,11 @@
 // How shapes cross the C border: plain slices of numbers are read as shapes.
-ghost use Rattle.crossing.specs.Outlines.{OutlineSays};
+ghost use mathlib.Core.Path.{_≡_};
+ghost use Prim.Native.Nat.{_≤_};
+ghost use lib.ListN.{length};
+ghost use Rattle.crossing.specs.Outlines.{sized, wanted, kindSized, OutlineSays};
 use cover::Kind;
+
+pub mod lists;
 
 // A shape by its coordinates, or nothing that is a shape.
 pub enum Outlined {
@@ -8,35 +13,34 @@ pub enum Outlined {
     Unknown,
 }
 
-// The number of coordinates says the kind: 3 for cx, cy, r; 6 for three corners; 8 for four.
+// Some kind has so many coordinates: 3 for cx, cy, r; 6 for three corners; 8 for four.
+fn is_sized(n: usize) -> bool
+    ensures { λ r. ⌜ r ≡ sized n ⌝ }
+{
+    (n == 3) | (n == 6) | (n == 8)
+}
+
+// The kind of n coordinates, which come first.
+fn kind_sized(n: usize, zs: &[i32]) -> Kind
+    requires { ⌜ wanted n ≤ length (now zs) ⌝ }
+    ensures { λ r. ⌜ r ≡ kindSized n (now (zs .entry)) ⌝ }
+{
+    if n == 3 {
+        return Kind::Circle(zs[0], zs[1], zs[2]);
+    }
+    if n == 6 {
+        return Kind::Triangle(zs[0], zs[1], zs[2], zs[3], zs[4], zs[5]);
+    }
+    Kind::Quad(zs[0], zs[1], zs[2], zs[3], zs[4], zs[5], zs[6], zs[7])
+}
+
+// The number of coordinates says the kind.
 pub fn outline(shape: &[i32]) -> Outlined
     ensures { λ r. ⌜ OutlineSays (now (shape .entry)) r ⌝ }
 {
     let n = shape.len();
-    if n == 3 {
-        return Outlined::Known(Kind::Circle(shape[0], shape[1], shape[2]));
-    }
-    if n == 6 {
-        return Outlined::Known(Kind::Triangle(
-            shape[0],
-            shape[1],
-            shape[2],
-            shape[3],
-            shape[4],
-            shape[5],
-        ));
-    }
-    if n == 8 {
-        return Outlined::Known(Kind::Quad(
-            shape[0],
-            shape[1],
-            shape[2],
-            shape[3],
-            shape[4],
-            shape[5],
-            shape[6],
-            shape[7],
-        ));
+    if is_sized(n) {
+        return Outlined::Known(kind_sized(n, shape));
     }
     Outlined::Unknown
 }
