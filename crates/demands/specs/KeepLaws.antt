@@ -67,6 +67,10 @@ module _ (w h : ℕ) (target canvas : List Float) where
         built = b .done refl;
       }
 
+  -- as a caller of build has it
+  pub answered-kept : (old table : List Float) (r : ℕ) → r ≡ 0 → BuildSays target canvas w h old r table → Kept w h target canvas table
+  answered-kept old table r z b = built-kept old table (subst (λ (k : ℕ). BuildSays target canvas w h old k table) z b)
+
   good-size : Sized w h → badSize w h ≡ false
   unfolding badSize
   good-size s = rw (le-ltb w 1 (s .w-low), le-ltb 256 w (s .w-high), le-ltb h 1 (s .h-low), le-ltb 256 h (s .h-high)) refl

@@ -1,0 +1,379 @@
+// The paint call run: pictures, the rows of the table that it redoes, refusals with several things wrong, and two calls beside a build afresh.
+use cover::Kind;
+use demands::Call;
+
+const MARK: f64 = 7.0;
+
+const PLAIN: f32 = 0.25;
+
+fn fill(xs: &mut [f32], first: f32, step: f32) {
+    let mut x = first;
+    for i in 0..xs.len() {
+        xs[i] = x;
+        x = x + step;
+    }
+}
+
+fn mark(table: &mut [f64]) {
+    for i in 0..table.len() {
+        table[i] = MARK;
+    }
+}
+
+// How many numbers of a marked table were written.
+fn written(table: &[f64]) -> usize {
+    let mut n = 0;
+    for i in 0..table.len() {
+        if table[i] != MARK {
+            n += 1;
+        }
+    }
+    n
+}
+
+// How many numbers of a plain picture were changed.
+fn changed(canvas: &[f32]) -> usize {
+    let mut n = 0;
+    for i in 0..canvas.len() {
+        if canvas[i] != PLAIN {
+            n += 1;
+        }
+    }
+    n
+}
+
+fn same(a: &[f64], b: &[f64]) -> bool {
+    if a.len() != b.len() {
+        return false;
+    }
+    let mut ok = true;
+    for i in 0..a.len() {
+        if a[i] != b[i] {
+            ok = false;
+        }
+    }
+    ok
+}
+
+fn number(x: f32) {
+    show::text(b" ");
+    show::hex(float::bits32(x) as u64, 8);
+}
+
+fn numbers(row: &[f32]) {
+    for i in 0..row.len() {
+        number(row[i]);
+    }
+    show::text(b"\n");
+}
+
+fn verdict(table: &[f64], fresh: &[f64]) {
+    if same(table, fresh) {
+        show::text(b", the table as built afresh\n");
+    } else {
+        show::text(b", THE TABLE NOT AS BUILT AFRESH\n");
+    }
+}
+
+// ---- shapes on a picture of 4 columns and 3 rows
+
+fn row_shown(y: u64, row: &[f64]) {
+    show::text(b" ");
+    show::unsigned(y);
+    show::text(b":");
+    show::unsigned(written(row) as u64);
+}
+
+// The numbers written of a marked table, row by row.
+fn rows_redone(target: &[f32; 36], kind: Kind, opacity: f32, red: f32, green: f32, blue: f32) {
+    let mut canvas = [0.0f32; 36];
+    fill(&mut canvas, 0.9, -0.02);
+    let mut marked = [0.0; 225];
+    mark(&mut marked);
+    paint::paint(
+        kind,
+        opacity,
+        red,
+        green,
+        blue,
+        4,
+        3,
+        target,
+        &mut canvas,
+        &mut marked,
+    );
+    show::text(b", written");
+    row_shown(0, &marked[0..75]);
+    row_shown(1, &marked[75..150]);
+    row_shown(2, &marked[150..225]);
+}
+
+fn stroke(name: &[u8], kind: Kind, opacity: f32, red: f32, green: f32, blue: f32) {
+    let mut target = [0.0f32; 36];
+    let mut canvas = [0.0f32; 36];
+    fill(&mut target, 0.0, 0.02);
+    fill(&mut canvas, 0.9, -0.02);
+    let mut places = [0.0; 225];
+    let mut fresh = [0.0; 225];
+    table::build(&target, &canvas, 4, 3, &mut places);
+    let no = paint::paint(
+        kind,
+        opacity,
+        red,
+        green,
+        blue,
+        4,
+        3,
+        &target,
+        &mut canvas,
+        &mut places,
+    );
+    table::build(&target, &canvas, 4, 3, &mut fresh);
+    show::text(name);
+    show::text(b": ");
+    show::unsigned(no as u64);
+    rows_redone(&target, kind, opacity, red, green, blue);
+    verdict(&places, &fresh);
+    numbers(&canvas[0..12]);
+    numbers(&canvas[12..24]);
+    numbers(&canvas[24..36]);
+}
+
+fn strokes() {
+    stroke(
+        b"circle (1,1) r 1",
+        Kind::Circle(1, 1, 1),
+        0.5,
+        1.0,
+        0.25,
+        0.0,
+    );
+    stroke(
+        b"circle (0,0) r 1",
+        Kind::Circle(0, 0, 1),
+        0.3,
+        0.1,
+        0.7,
+        1.0,
+    );
+    stroke(
+        b"triangle (0,0),(3,0),(0,2)",
+        Kind::Triangle(0, 0, 3, 0, 0, 2),
+        0.2,
+        0.9,
+        0.1,
+        0.4,
+    );
+    stroke(
+        b"quad (1,1),(3,1),(3,2),(1,2)",
+        Kind::Quad(1, 1, 3, 1, 3, 2, 1, 2),
+        1.0,
+        0.3,
+        0.6,
+        0.9,
+    );
+    stroke(b"opacity -0", Kind::Circle(1, 1, 2), -0.0, 0.3, 0.6, 0.9);
+    stroke(b"radius 0", Kind::Circle(1, 1, 0), 0.5, 1.0, 0.25, 0.0);
+    stroke(b"radius -3", Kind::Circle(1, 1, -3), 0.5, 1.0, 0.25, 0.0);
+    stroke(
+        b"no area",
+        Kind::Triangle(0, 0, 1, 1, 2, 2),
+        0.5,
+        1.0,
+        0.25,
+        0.0,
+    );
+    stroke(b"above", Kind::Circle(1, -5, 2), 0.5, 1.0, 0.25, 0.0);
+    stroke(
+        b"just above",
+        Kind::Triangle(0, -1, 3, -1, 1, -4),
+        0.5,
+        1.0,
+        0.25,
+        0.0,
+    );
+    stroke(b"below", Kind::Circle(1, 9, 2), 0.5, 1.0, 0.25, 0.0);
+    stroke(b"beside", Kind::Circle(20, 1, 3), 0.5, 1.0, 0.25, 0.0);
+    stroke(
+        b"farthest",
+        Kind::Quad(-8191, -8191, 8191, -8191, 8191, 8191, -8191, 8191),
+        0.7,
+        0.0,
+        1.0,
+        0.5,
+    );
+}
+
+// ---- refusals: circle (cx, 1) r 1, a colour's red, and what is lent
+
+fn lent(
+    cx: i32,
+    opacity: f32,
+    red: f32,
+    w: usize,
+    h: usize,
+    target: &[f32],
+    canvas: &mut [f32],
+    places: &mut [f64],
+) {
+    mark(places);
+    let no = paint::paint(
+        Kind::Circle(cx, 1, 1),
+        opacity,
+        red,
+        0.5,
+        0.5,
+        w,
+        h,
+        target,
+        canvas,
+        places,
+    );
+    show::text(b": ");
+    show::unsigned(no as u64);
+    show::text(b", changed ");
+    show::unsigned(changed(canvas) as u64);
+    show::text(b" and ");
+    show::unsigned(written(places) as u64);
+    show::text(b"\n");
+}
+
+fn asked(cx: i32, opacity: f32, red: f32, w: usize, h: usize, nt: usize, nc: usize, n: usize) {
+    show::text(b"x ");
+    show::signed32(cx);
+    show::text(b", opacity");
+    number(opacity);
+    show::text(b", red");
+    number(red);
+    show::text(b", ");
+    show::unsigned(w as u64);
+    show::text(b"x");
+    show::unsigned(h as u64);
+    show::text(b", lengths ");
+    show::unsigned(nt as u64);
+    show::text(b" ");
+    show::unsigned(nc as u64);
+    show::text(b" ");
+    show::unsigned(n as u64);
+}
+
+fn ask(cx: i32, opacity: f32, red: f32, w: usize, h: usize, nt: usize, nc: usize, n: usize) {
+    let target = [0.5f32; 40];
+    let mut canvas = [PLAIN; 40];
+    let mut places = [0.0; 240];
+    asked(cx, opacity, red, w, h, nt, nc, n);
+    if nt <= 40 {
+        if nc <= 40 {
+            if n <= 240 {
+                lent(
+                    cx,
+                    opacity,
+                    red,
+                    w,
+                    h,
+                    &target[0..nt],
+                    &mut canvas[0..nc],
+                    &mut places[0..n],
+                );
+            }
+        }
+    }
+}
+
+fn one_wrong() {
+    // none
+    ask(1, 0.5, 1.0, 4, 3, 36, 36, 225);
+    ask(8191, 0.5, 1.0, 4, 3, 36, 36, 225);
+    ask(-8191, 0.5, 1.0, 4, 3, 36, 36, 225);
+    ask(1, -0.0, -0.0, 4, 3, 36, 36, 225);
+    ask(1, 1.0, 1.0, 3, 4, 36, 36, 240);
+    // a size
+    ask(1, 0.5, 1.0, 0, 3, 36, 36, 225);
+    ask(1, 0.5, 1.0, 4, 0, 36, 36, 225);
+    ask(1, 0.5, 1.0, 257, 3, 36, 36, 225);
+    ask(1, 0.5, 1.0, 4, 257, 36, 36, 225);
+    // a length
+    ask(1, 0.5, 1.0, 4, 3, 35, 36, 225);
+    ask(1, 0.5, 1.0, 4, 3, 36, 35, 225);
+    ask(1, 0.5, 1.0, 4, 3, 36, 37, 225);
+    ask(1, 0.5, 1.0, 4, 3, 36, 36, 224);
+    ask(1, 0.5, 1.0, 3, 4, 36, 36, 225);
+    // a place
+    ask(8192, 0.5, 1.0, 4, 3, 36, 36, 225);
+    ask(-8192, 0.5, 1.0, 4, 3, 36, 36, 225);
+    // an opacity: just above 1, just below 0, a NaN
+    ask(1, float::of_bits32(0x3f80_0001), 1.0, 4, 3, 36, 36, 225);
+    ask(1, float::of_bits32(0x8000_0001), 1.0, 4, 3, 36, 36, 225);
+    ask(1, float::of_bits32(0x7fc0_0000), 1.0, 4, 3, 36, 36, 225);
+    // a colour
+    ask(1, 0.5, float::of_bits32(0x3f80_0001), 4, 3, 36, 36, 225);
+    ask(1, 0.5, float::of_bits32(0x7fc0_0000), 4, 3, 36, 36, 225);
+}
+
+fn several_wrong() {
+    ask(8192, 2.0, 2.0, 0, 3, 35, 36, 225);
+    ask(8192, 2.0, 2.0, 4, 3, 35, 36, 225);
+    ask(8192, 2.0, 2.0, 4, 3, 36, 36, 225);
+    ask(1, 2.0, 2.0, 4, 3, 36, 36, 225);
+    ask(8192, 0.5, 2.0, 4, 3, 36, 36, 225);
+    ask(1, 0.5, 2.0, 4, 3, 36, 36, 0);
+    ask(8192, 0.5, 1.0, 4, 257, 36, 36, 225);
+    ask(1, 2.0, 1.0, 4, 3, 36, 0, 225);
+}
+
+// ---- two calls and a build afresh
+
+fn circle(cx: i32, cy: i32, r: i32, opacity: f32, w: usize, h: usize) -> Call {
+    Call {
+        kind: Kind::Circle(cx, cy, r),
+        opacity: opacity,
+        red: 1.0,
+        green: 0.5,
+        blue: 0.25,
+        w: w,
+        h: h,
+    }
+}
+
+fn both(first: Call, second: Call) {
+    let mut target = [0.0f32; 36];
+    let mut canvas = [0.0f32; 36];
+    fill(&mut target, 0.0, 0.02);
+    fill(&mut canvas, 0.9, -0.02);
+    let mut places = [0.0; 225];
+    let mut fresh = [0.0; 225];
+    let no = table::build(&target, &canvas, 4, 3, &mut places);
+    if no == 0 {
+        let n = demands::two_calls(
+            first,
+            second,
+            4,
+            3,
+            &target,
+            &mut canvas,
+            &mut places,
+            &mut fresh,
+        );
+        show::text(b"two calls: ");
+        show::unsigned(n.first as u64);
+        show::text(b" ");
+        show::unsigned(n.second as u64);
+        show::text(b" ");
+        show::unsigned(n.afresh as u64);
+        verdict(&places, &fresh);
+    }
+}
+
+fn pairs() {
+    both(circle(1, 0, 1, 0.5, 4, 3), circle(2, 2, 1, 0.25, 4, 3));
+    both(circle(1, 0, 1, 0.5, 4, 3), circle(2, 2, 1, 2.0, 4, 3));
+    both(circle(1, 0, 1, 0.5, 3, 4), circle(2, 2, 1, 0.25, 4, 3));
+    both(circle(1, -9, 1, 0.5, 4, 3), circle(8192, 2, 1, 0.25, 4, 3));
+}
+
+fn main() {
+    strokes();
+    one_wrong();
+    several_wrong();
+    pairs();
+}
