@@ -88,7 +88,7 @@ fn build(places: &mut [f64]) {
     let mut target = [0.0f32; 105];
     let mut canvas = [0.0f32; 105];
     fill(&mut target, 0.3);
-    fill(&mut canvas, 0.7);
+    fill(&mut canvas, 0.6);
     if 600 <= places.len() {
         table::build(&target, &canvas, 7, 5, &mut places[0..600]);
     }
@@ -141,7 +141,7 @@ fn circle_points_on(
     let mut target = [0.0f32; 110];
     let mut canvas = [0.0f32; 110];
     fill(&mut target, 0.3);
-    fill(&mut canvas, 0.7);
+    fill(&mut canvas, 0.6);
     if nt <= 110 {
         if nc <= 110 {
             answer(score::calls::circle_point_score(
@@ -183,7 +183,7 @@ fn circle_collected(cx: i32, cy: i32, r: i32, w: usize, h: usize, nt: usize, nc:
     let mut target = [0.0f32; 110];
     let mut canvas = [0.0f32; 110];
     fill(&mut target, 0.3);
-    fill(&mut canvas, 0.7);
+    fill(&mut canvas, 0.6);
     if nt <= 110 {
         if nc <= 110 {
             sums_answer(score::calls::collect_circle_sums(
@@ -216,7 +216,7 @@ fn triangle_points_on(
     let mut target = [0.0f32; 110];
     let mut canvas = [0.0f32; 110];
     fill(&mut target, 0.3);
-    fill(&mut canvas, 0.7);
+    fill(&mut canvas, 0.6);
     if nt <= 110 {
         if nc <= 110 {
             answer(score::calls::triangle_point_score(
@@ -288,7 +288,7 @@ fn triangle_collected(
     let mut target = [0.0f32; 110];
     let mut canvas = [0.0f32; 110];
     fill(&mut target, 0.3);
-    fill(&mut canvas, 0.7);
+    fill(&mut canvas, 0.6);
     if nt <= 110 {
         if nc <= 110 {
             sums_answer(score::calls::collect_triangle_sums(
@@ -369,19 +369,22 @@ fn part_0() {
     levels_of(3, 64);
     // levels of 4 bits
     levels_of(4, 64);
+}
+
+fn part_1() {
     // levels of 5 bits
     levels_of(5, 64);
     // levels of 6 bits
     levels_of(6, 64);
     // levels of 7 bits
     levels_of(7, 64);
-}
-
-fn part_1() {
     // levels of 7 bits, 63 places
     levels_of(7, 63);
     // levels of 2147483648 bits
     levels_of(2147483648, 64);
+}
+
+fn part_2() {
     // sums by spans, circle 3 2 2
     spans_collected(Kind::Circle(3, 2, 2), 7, 5, 600);
     // spans, circle 3 2 2, opacity 3f000000
@@ -428,6 +431,9 @@ fn part_1() {
         5,
         600,
     );
+}
+
+fn part_3() {
     // spans, circle 3 2 2, 1 levels
     spans(
         Kind::Circle(3, 2, 2),
@@ -439,9 +445,6 @@ fn part_1() {
         5,
         600,
     );
-}
-
-fn part_2() {
     // spans, circle 3 2 2, 2 levels
     spans(
         Kind::Circle(3, 2, 2),
@@ -477,6 +480,9 @@ fn part_2() {
         5,
         600,
     );
+}
+
+fn part_4() {
     // spans, triangle 0 0 6 1 2 4, opacity 00000000
     spans(
         Kind::Triangle(0, 0, 6, 1, 2, 4),
@@ -521,9 +527,6 @@ fn part_2() {
         5,
         600,
     );
-}
-
-fn part_3() {
     // spans, triangle 0 0 6 1 2 4, 2 levels
     spans(
         Kind::Triangle(0, 0, 6, 1, 2, 4),
@@ -535,6 +538,9 @@ fn part_3() {
         5,
         600,
     );
+}
+
+fn part_5() {
     // spans, triangle 0 0 6 1 2 4, 64 levels
     spans(
         Kind::Triangle(0, 0, 6, 1, 2, 4),
@@ -581,6 +587,9 @@ fn part_3() {
         5,
         600,
     );
+}
+
+fn part_6() {
     // spans, quad 1 0 6 1 5 4 0 3, opacity 80000000
     spans(
         Kind::Quad(1, 0, 6, 1, 5, 4, 0, 3),
@@ -603,9 +612,6 @@ fn part_3() {
         5,
         600,
     );
-}
-
-fn part_4() {
     // spans, quad 1 0 6 1 5 4 0 3, 2 levels
     spans(
         Kind::Quad(1, 0, 6, 1, 5, 4, 0, 3),
@@ -630,6 +636,9 @@ fn part_4() {
     );
     // sums by points, circle 3 2 2
     circle_collected(3, 2, 2, 7, 5, 105, 105);
+}
+
+fn part_7() {
     // points, circle 3 2 2, opacity 3f000000
     circle_points(
         3,
@@ -702,7 +711,7 @@ fn part_4() {
     );
 }
 
-fn part_5() {
+fn part_8() {
     // sums by points, triangle 0 0 6 1 2 4
     triangle_collected(0, 0, 6, 1, 2, 4, 7, 5, 105, 105);
     // points, triangle 0 0 6 1 2 4, opacity 3f000000
@@ -773,6 +782,9 @@ fn part_5() {
         105,
         105,
     );
+}
+
+fn part_9() {
     // points, triangle 0 0 6 1 2 4, 64 levels
     triangle_points(
         0,
@@ -818,9 +830,6 @@ fn part_5() {
         105,
         105,
     );
-}
-
-fn part_6() {
     // spans, circle 40 40 3, 64 levels
     spans(
         Kind::Circle(40, 40, 3),
@@ -849,6 +858,9 @@ fn part_6() {
         105,
         105,
     );
+}
+
+fn part_10() {
     // spans, circle 3 2 2, 0 levels
     spans(
         Kind::Circle(3, 2, 2),
@@ -910,6 +922,9 @@ fn part_6() {
         5,
         600,
     );
+}
+
+fn part_11() {
     // points, triangle 0 0 6 1 2 4, 63 levels, level 63 is 7fc00000
     triangle_points(
         0,
@@ -927,9 +942,6 @@ fn part_6() {
         105,
         105,
     );
-}
-
-fn part_7() {
     // spans, circle 3 2 2, 64 levels, level 63 is 7fc00000
     spans(
         Kind::Circle(3, 2, 2),
@@ -980,6 +992,9 @@ fn part_7() {
         5,
         600,
     );
+}
+
+fn part_12() {
     // points, circle 3 2 2, opacity 80000001
     circle_points(
         3,
@@ -1036,9 +1051,6 @@ fn part_7() {
         105,
         105,
     );
-}
-
-fn part_8() {
     // spans, circle 3 8192 2, opacity 40000000, 7 by 257
     spans(
         Kind::Circle(3, 8192, 2),
@@ -1050,6 +1062,9 @@ fn part_8() {
         257,
         600,
     );
+}
+
+fn part_13() {
     // points, circle 3 8192 2, opacity 40000000, 7 by 257
     circle_points(
         3,
@@ -1114,6 +1129,9 @@ fn part_8() {
         105,
         105,
     );
+}
+
+fn part_14() {
     // spans, circle 3 8192 2, opacity 40000000
     spans(
         Kind::Circle(3, 8192, 2),
@@ -1139,9 +1157,6 @@ fn part_8() {
         105,
         105,
     );
-}
-
-fn part_9() {
     // spans, circle 3 2 2, opacity 40000000
     spans(
         Kind::Circle(3, 2, 2),
@@ -1178,6 +1193,9 @@ fn part_9() {
         7,
         600,
     );
+}
+
+fn part_15() {
     // points, circle 3 2 2, opacity 3f000000, 5 by 7
     circle_points(
         3,
@@ -1241,7 +1259,7 @@ fn part_9() {
     );
 }
 
-fn part_10() {
+fn part_16() {
     // points, circle 3 8192 2, 0 levels, 104 numbers of the target
     circle_points(
         3,
@@ -1318,6 +1336,9 @@ fn part_10() {
         105,
         105,
     );
+}
+
+fn part_17() {
     // points, triangle 0 0 -8192 1 2 4, opacity bf800000
     triangle_points(
         0,
@@ -1357,13 +1378,13 @@ fn part_10() {
         5,
         600,
     );
-}
-
-fn part_11() {
     // sums by spans, circle 3 8192 2, 0 by 5, 3 numbers of the table
     spans_collected(Kind::Circle(3, 8192, 2), 0, 5, 3);
     // sums by spans, circle 3 8192 2, 599 numbers of the table
     spans_collected(Kind::Circle(3, 8192, 2), 7, 5, 599);
+}
+
+fn part_18() {
     // sums by spans, circle 3 8192 2
     spans_collected(Kind::Circle(3, 8192, 2), 7, 5, 600);
     // sums by spans, quad 0 0 6 1 5 -8192 0 3
@@ -1374,11 +1395,11 @@ fn part_11() {
     circle_collected(3, 8192, 2, 7, 5, 104, 105);
     // sums by points, circle 3 8192 2, 108 of the canvas
     circle_collected(3, 8192, 2, 7, 5, 105, 108);
-    // sums by points, circle 3 8192 2
-    circle_collected(3, 8192, 2, 7, 5, 105, 105);
 }
 
-fn part_12() {
+fn part_19() {
+    // sums by points, circle 3 8192 2
+    circle_collected(3, 8192, 2, 7, 5, 105, 105);
     // sums by points, triangle 0 0 -8192 1 2 4
     triangle_collected(0, 0, -8192, 1, 2, 4, 7, 5, 105, 105);
     // sums by points, triangle 0 0 -8192 1 2 4, 0 by 5
@@ -1398,6 +1419,9 @@ fn part_12() {
         70,
         float::of_bits32(0x3f00_0000),
     );
+}
+
+fn part_20() {
     // sweep, sums 3.0 1.5 2.5 1.0 1.0 of 4 pixels, 64 levels
     swept(
         float::of_bits64(0x40080000_00000000),
@@ -1450,9 +1474,6 @@ fn part_12() {
         70,
         float::of_bits32(0x3f00_0000),
     );
-}
-
-fn part_13() {
     // sweep, sums 1.0 1.0 1e+300 -1e+300 1.0 of 2 pixels, 64 levels
     swept(
         float::of_bits64(0x3ff00000_00000000),
@@ -1466,6 +1487,9 @@ fn part_13() {
         70,
         float::of_bits32(0x3f00_0000),
     );
+}
+
+fn part_21() {
     // sweep, sums 1.0 1.0 1.0 -1e+300 1.0 of 5 pixels, 3 levels
     swept(
         float::of_bits64(0x3ff00000_00000000),
@@ -1531,6 +1555,9 @@ fn part_13() {
         70,
         float::of_bits32(0x3f00_0000),
     );
+}
+
+fn part_22() {
     // sweep, sums 3.0 1.5 2.5 1.0 1.0 of 4 pixels, 65 levels, 63 levels lent
     swept(
         float::of_bits64(0x40080000_00000000),
@@ -1557,9 +1584,6 @@ fn part_13() {
         10,
         float::of_bits32(0x7fc0_0000),
     );
-}
-
-fn part_14() {
     // sweep, sums 3.0 1.5 2.5 1.0 1.0 of 4 pixels, 11 levels, level 10 is 7fc00000
     swept(
         float::of_bits64(0x40080000_00000000),
@@ -1604,4 +1628,12 @@ fn main() {
     part_12();
     part_13();
     part_14();
+    part_15();
+    part_16();
+    part_17();
+    part_18();
+    part_19();
+    part_20();
+    part_21();
+    part_22();
 }
