@@ -5,7 +5,7 @@ use Prim.Native.Nat.{ℕ, _+_}
 use lib.IntN.{natAbs}
 use lib.Signed.{leZ}
 use Rattle.cover.specs.declared.Kind.{Kind}
-use Rattle.cover.specs.declared.rows.Rows.{Rows}
+use Rattle.cover.specs.declared.reached.Rows.{Rows}
 use Rattle.cover.specs.Cover.{reach}
 
 -- the reach begins at row 0 or below it

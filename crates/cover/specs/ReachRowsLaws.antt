@@ -15,7 +15,7 @@ use Rattle.laws.specs.EndsLaws.{ended, ended-unique}
 use Rattle.whole.specs.Whole.{lesser, greater}
 use Rattle.whole.specs.WholeLaws.{greater-high, greater-low, lesser-low, lesser-high}
 use Rattle.cover.specs.declared.Kind.{Kind}
-use Rattle.cover.specs.declared.rows.Rows.{Rows}
+use Rattle.cover.specs.declared.reached.Rows.{Rows}
 use Rattle.cover.specs.Cover.{covered, reach, lowestRow, highestRow}
 use Rattle.cover.specs.ReachRows.{reachRows, ReachRowsSays}
 use Rattle.cover.specs.CoverLaws.{in-reach}

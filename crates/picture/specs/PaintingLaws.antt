@@ -24,7 +24,7 @@ use Rattle.float.specs.Within.{within, allWithin}
 use Rattle.float.specs.BlendLaws.{paint-within}
 use Rattle.cover.specs.declared.Kind.{Kind}
 use Rattle.cover.specs.Cover.{covered, reach}
-use Rattle.cover.specs.declared.rows.Rows.{Rows}
+use Rattle.cover.specs.declared.reached.Rows.{Rows}
 use Rattle.cover.specs.ReachRows.{reachRows}
 use Rattle.cover.specs.ReachRowsLaws.{through}
 use Rattle.cover.specs.CoverLaws.{in-run, run-bounds, not-covered}

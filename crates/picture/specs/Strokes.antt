@@ -9,7 +9,7 @@ use Rattle.laws.specs.Pictures.{listOf, recoloured}
 use Rattle.laws.specs.Strokes.{inRuns}
 use Rattle.brush.specs.declared.Brush.{Brush}
 use Rattle.brush.specs.Brushes.{mixed, brushed}
-use Rattle.cover.specs.declared.rows.Rows.{Rows}
+use Rattle.cover.specs.declared.reached.Rows.{Rows}
 
 -- numbers a up to e of a picture, e left out
 abbrev pub brushedPart : Brush → ℕ → ℕ → List Float → List Float

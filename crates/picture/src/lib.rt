@@ -20,7 +20,7 @@ ghost use Rattle.picture.specs.Strokes.{brushedPart, brushedRows, RowsWi
 ghost use Rattle.picture.specs.Pixels.{BadColourSays, FillSays, FilledCanvasSays, fillRefusal, MeanRgbSays, meanOf, meanRefusal, SseTotalSays, squaredDifference, totalRefusal, TotalAnySays, TotalWithinSays};
 use brush::Brush;
 use cover::Kind;
-use cover::rows::Rows;
+use cover::reached::Rows;
 
 pub struct Colour {
     pub red: f32,
@@ -253,7 +253,7 @@ pub fn blend(
 {
     let mut runs = [0u16; 512];
     cover::runs(kind, w, h, &mut runs);
-    let rows = cover::rows::reach_rows(kind, h);
+    let rows = cover::reached::reach_rows(kind, h);
     let brush = brush::brush_of(opacity, red, green, blue);
     blend_rows(brush, &runs, rows, w, h, canvas);
 }

@@ -9,7 +9,7 @@ use Rattle.laws.specs.Runs.{runsOf}
 use Rattle.cover.specs.Cover.{covered}
 use Rattle.cover.specs.ReachRows.{reachRows}
 use Rattle.cover.specs.ReachRowsLaws.{through}
-use Rattle.cover.specs.declared.rows.Rows.{Rows}
+use Rattle.cover.specs.declared.reached.Rows.{Rows}
 use Rattle.score.specs.RunSums.{pointsAdded}
 use Rattle.score.specs.ScoringLaws.{points-none, reach-points, runs-fit}
 use Rattle.score.proofs.points.point_sums.Statement.{statement}

@@ -7,7 +7,7 @@ use Rattle.laws.specs.Runs.{runsOf}
 use Rattle.cover.specs.Cover.{covered}
 use Rattle.cover.specs.ReachRows.{reachRows}
 use Rattle.cover.specs.ReachRowsLaws.{through}
-use Rattle.cover.specs.declared.rows.Rows.{Rows}
+use Rattle.cover.specs.declared.reached.Rows.{Rows}
 use Rattle.score.specs.RunSums.{runsAdded}
 use Rattle.score.specs.ScoringLaws.{runs-none, reach-sums, runs-fit}
 use native.Mathlib.Omega.{arith}

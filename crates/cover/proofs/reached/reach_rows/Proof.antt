@@ -1,4 +1,4 @@
--- `cover::rows::reach_rows` meets its contract: the ends that are cast are not negative.
+-- `cover::reached::reach_rows` meets its contract: the ends that are cast are not negative.
 use mathlib.Core.Path.{_≡_, sym, _∙_, ap, ap₂, subst}
 use Prim.Native.Nat.{ℕ, _+_}
 use lib.Dec.{T}
@@ -10,13 +10,13 @@ use mir.Facts.{toZ-ofZ}
 use Rattle.cover.specs.ReachRowsLaws.{first-nonneg, rows-some, rows-none}
 use Rattle.cover.specs.Cover.{reach}
 use Rattle.cover.specs.declared.Reach.{Reach}
-use Rattle.cover.specs.declared.rows.Rows.{Rows}
+use Rattle.cover.specs.declared.reached.Rows.{Rows}
 use Rattle.laws.specs.Order.{≤ℤ-trans}
 use Rattle.laws.specs.Fit.{le-true, le-false, of-abs, of-mag}
 use native.Mathlib.Omega.{arith}
 use borrow.Author.Needs.{needs}
-use Rattle.cover.proofs.rows.reach_rows.Statement.{statement}
-use Rattle.cover.proofs.rows.reach_rows.Tie as tie
+use Rattle.cover.proofs.reached.reach_rows.Statement.{statement}
+use Rattle.cover.proofs.reached.reach_rows.Tie as tie
 
 row-reach-requires : tie.Need-row-reach-requires
 row-reach-requires c κs = search needs
