@@ -15,11 +15,10 @@ struct Shape {
     paint: [f32; 4],
 }
 
-fn shape(d: &mut Draw, w: i64, h: i64) -> Shape {
+fn shape(d: &mut Draw, w: i64, h: i64, part: i64) -> Shape {
     let kind = d.between(1, 3) as u8;
     let mut places = [0; 8];
-    // a fifth of the picture's side, as fitted shapes are
-    let (cx, cy, r) = (d.between(0, w - 1), d.between(0, h - 1), w.max(h) / 10 + 1);
+    let (cx, cy, r) = (d.between(0, w - 1), d.between(0, h - 1), w.max(h) / part + 1);
     if kind == 1 {
         places[..3].copy_from_slice(&[cx as i32, cy as i32, d.between(1, r) as i32]);
     } else {
@@ -57,17 +56,17 @@ fn summed(picture: &[f32], opacities: impl Iterator<Item = f32>) -> u64 {
 }
 
 /// Rejected: the target is the list drawn, so that nearly every exchange is worse. Mixed: a target of its own.
-fn entry(name: &'static str, w: usize, h: usize, passes: usize, rejected: bool) -> Entry {
+fn entry(name: &'static str, w: usize, h: usize, passes: usize, rejected: bool, part: i64) -> Entry {
     let mut d = Draw::named(7, name);
-    let list: Vec<Shape> = (0..64).map(|_| shape(&mut d, w as i64, h as i64)).collect();
-    let wanted: Vec<Shape> = (0..64).map(|_| shape(&mut d, w as i64, h as i64)).collect();
+    let list: Vec<Shape> = (0..64).map(|_| shape(&mut d, w as i64, h as i64, part)).collect();
+    let wanted: Vec<Shape> = (0..64).map(|_| shape(&mut d, w as i64, h as i64, part)).collect();
     let background = [0.25, 0.5, 0.75];
     let mut target = probe::filled_canvas(background, h as u32, w as u32);
     for s in if rejected { &list } else { &wanted } {
         apply(&mut target, s, w as i32, h as i32);
     }
     let offers: Vec<Shape> = (0..1024)
-        .map(|i| if rejected { shape(&mut d, w as i64, h as i64) } else if i % 2 == 0 { wanted[d.below(64) as usize].clone() } else { shape(&mut d, w as i64, h as i64) })
+        .map(|i| if rejected { shape(&mut d, w as i64, h as i64, part) } else if i % 2 == 0 { wanted[d.below(64) as usize].clone() } else { shape(&mut d, w as i64, h as i64, part) })
         .collect();
     let (tags, places, paints) = flat(&list);
     let (offered_tags, offered_places, offered_paints) = flat(&offers);
@@ -113,11 +112,16 @@ fn entry(name: &'static str, w: usize, h: usize, passes: usize, rejected: bool) 
     }
 }
 
+/// Shapes reach up to a tenth, or up to half of the picture's longer side from their middle.
 pub fn entries() -> Vec<Entry> {
     vec![
-        entry("refine, rejected, 32 by 24, a trial", 32, 24, 2, true),
-        entry("refine, mixed, 32 by 24, a trial", 32, 24, 4, false),
-        entry("refine, rejected, 256 by 256, a trial", 256, 256, 1, true),
-        entry("refine, mixed, 256 by 256, a trial", 256, 256, 1, false),
+        entry("refine, rejected, small, 32 by 24, a trial", 32, 24, 2, true, 10),
+        entry("refine, rejected, large, 32 by 24, a trial", 32, 24, 2, true, 2),
+        entry("refine, mixed, small, 32 by 24, a trial", 32, 24, 4, false, 10),
+        entry("refine, mixed, large, 32 by 24, a trial", 32, 24, 4, false, 2),
+        entry("refine, rejected, small, 256 by 256, a trial", 256, 256, 1, true, 10),
+        entry("refine, rejected, large, 256 by 256, a trial", 256, 256, 1, true, 2),
+        entry("refine, mixed, small, 256 by 256, a trial", 256, 256, 1, false, 10),
+        entry("refine, mixed, large, 256 by 256, a trial", 256, 256, 1, false, 2),
     ]
 }

@@ -23,7 +23,7 @@ use Rattle.shapes.specs.Lists.{listed, ExchangeSays}
 use Rattle.shapes.specs.Ranges.{fits}
 use Rattle.refine.specs.declared.Course.{Course}
 use Rattle.refine.specs.Refinement.{Scene, Progress, paintedOn, drawn, lower, noCandidate, notLower, accepted, after, next, nexts, begun, pass, passes, nothingYet, refined}
-use Rattle.refine.specs.Courses.{progressOf, risen, restarted, Kept, Held, Stepped}
+use Rattle.refine.specs.Courses.{progressOf, risen, taken, restarted, Kept, Held, Stepped}
 use Rattle.refine.specs.RefinementLaws.{nexts-more, Zipped, zipped, zip-place, passes-last, passes-more, refined-short, refined-long, drawn-exchanged, next-none, next-kept, next-taken}
 
 every-without : (p : Shape → Bool) (j : ℕ) (l : List Shape) (x : Shape) → T (every p l) → T (p x) → T (every p (without j l ++ (x ∷ [])))
@@ -89,7 +89,7 @@ module _ (g : Scene Shape (List Float)) (size : ℕ) where
 
       -- an accepted one
       pub stepped-taken : (list′ : Shapes) → lower new (c .old) ≡ true → T (fits x) → c .place < c .list .count → ExchangeSays (c .list) (c .place) x list′
-          → Stepped g size c (record { list = list′; place = c .place; passes = c .passes; trials = c .trials + 1; acceptances = c .acceptances + 1; made = c .place; old = new }) first′ second′
+          → Stepped g size c (taken c list′ new) first′ second′
       unfolding after
       stepped-taken list′ l q h s =
           let j = c .place in

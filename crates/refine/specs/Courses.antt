@@ -40,6 +40,10 @@ untried list old = record { list = list; place = 0; passes = 0; trials = 0; acce
 abbrev pub risen : Course → ℕ → Course
 risen c made = record { list = c .list; place = c .place + 1; passes = c .passes; trials = c .trials + 1; acceptances = c .acceptances; made = made; old = c .old }
 
+-- and one with an acceptance, the list after it being list and its total new
+abbrev pub taken : Course → Shapes → Float → Course
+taken c list new = record { list = list; place = c .place; passes = c .passes; trials = c .trials + 1; acceptances = c .acceptances + 1; made = c .place; old = new }
+
 -- a pass begins
 abbrev pub restarted : Course → Course
 restarted c = record { list = c .list; place = 0; passes = c .passes + 1; trials = c .trials; acceptances = c .acceptances; made = 0; old = c .old }

@@ -17,7 +17,7 @@ ghost use Rattle.shapes.specs.Ranges.{fits};
 ghost use Rattle.refine.specs.Refinement.{paintedOn};
 ghost use Rattle.refine.specs.Scenes.{shapePainted, sceneWith};
 ghost use Rattle.refine.specs.Tests.{sizeTests, rangeTests};
-ghost use Rattle.refine.specs.Courses.{Drawable, Targeted, untried, risen, restarted, answered, Held, Stepped, Ready};
+ghost use Rattle.refine.specs.Courses.{Drawable, Targeted, untried, risen, taken, restarted, answered, Held, Stepped, Ready};
 ghost use Rattle.refine.specs.Answers.{told, refusedWith, RefineShapesSays};
 use shapes::Candidate;
 use shapes::Candidates;
@@ -124,14 +124,31 @@ fn rise(c: Course, made: usize) -> Course
     ensures { λ r. ⌜ r ≡ risen c made ⌝ }
 {
     let list = c.list;
+    let trials = c.trials + 1;
     Course {
         list,
         place: c.place + 1,
         passes: c.passes,
-        trials: c.trials + 1,
+        trials,
         acceptances: c.acceptances,
         made,
         old: c.old,
+    }
+}
+
+// The list with the exchange made: j stays, and the candidate's total is that of the list.
+fn accept(c: Course, list: Shapes, new: f64) -> Course
+    requires { ⌜ (c .trials < 1024) × (c .acceptances ≤ c .trials) ⌝ }
+    ensures { λ r. ⌜ r ≡ taken c list new ⌝ }
+{
+    Course {
+        list,
+        place: c.place,
+        passes: c.passes,
+        trials: c.trials + 1,
+        acceptances: c.acceptances + 1,
+        made: c.place,
+        old: new,
     }
 }
 
@@ -159,15 +176,7 @@ fn step(
             let new = try_candidate(w, h, target, list, c.made, j, x, first, second);
             if new + 1e-9 < c.old {
                 let list = shapes::exchange(list, j, x);
-                Course {
-                    list,
-                    place: j,
-                    passes: c.passes,
-                    trials: c.trials + 1,
-                    acceptances: c.acceptances + 1,
-                    made: j,
-                    old: new,
-                }
+                accept(c, list, new)
             } else {
                 rise(c, j)
             }
@@ -338,7 +347,7 @@ fn finish(
         × (now (second .exit) ≡ paintedOn (shapePainted w h) (filled w h red green blue) (listed list)) ⌝ }
 {
     draw(w, h, red, green, blue, list, first);
-    copy(first, second);
+    draw(w, h, red, green, blue, list, second);
 }
 
 fn answer(c: Course) -> Refined

@@ -1,10 +1,8 @@
 // Shapes with their opacity and colour, lists of them by value, and candidates; what of them is within its range.
 ghost use mathlib.Core.Path.{_≡_};
-ghost use mathlib.Core.List.{[], _∷_, _++_};
-ghost use Prim.Native.Nat.{_+_, _<_, _≤_};
-ghost use lib.ListN.{length};
-ghost use Rattle.laws.specs.Without.{without};
-ghost use Rattle.shapes.specs.Lists.{listed, ExchangeSays};
+ghost use mathlib.Core.List.{[], _∷_};
+ghost use Prim.Native.Nat.{_<_, _≤_};
+ghost use Rattle.shapes.specs.Lists.{ExchangeSays};
 ghost use Rattle.shapes.specs.Ranges.{rangesOf, both, LookAtSays, LookThroughSays};
 use cover::Kind;
 
@@ -49,39 +47,20 @@ pub struct Ranges {
 
 // ---- lists
 
-// Shape j leaves, later ones move up.
-fn remove(mut s: Shapes, j: usize) -> Shapes
-    requires { ⌜ (j < s .count) × (s .count ≤ 64) ⌝ }
-    ensures { λ r. ⌜ (r .count + 1 ≡ s .count) × (length (r .items) ≡ 64) × (listed r ≡ without j (listed s)) ⌝ }
-{
-    let n = s.count;
-    let mut i = j + 1;
-    while i < n {
-        let x = s.items[i];
-        s.items[i - 1] = x;
-        i += 1;
-    }
-    s.count = n - 1;
-    s
-}
-
-// A shape goes last.
-fn push(mut s: Shapes, x: Shape) -> Shapes
-    requires { ⌜ s .count < 64 ⌝ }
-    ensures { λ r. ⌜ (r .count ≡ s .count + 1) × (length (r .items) ≡ 64) × (listed r ≡ listed s ++ (x ∷ [])) ⌝ }
-{
-    let n = s.count;
-    s.items[n] = x;
-    s.count = n + 1;
-    s
-}
-
 // Shape j leaves, later ones move up, and x goes last.
-pub fn exchange(s: Shapes, j: usize, x: Shape) -> Shapes
+pub fn exchange(mut s: Shapes, j: usize, x: Shape) -> Shapes
     requires { ⌜ (j < s .count) × (s .count ≤ 64) ⌝ }
     ensures { λ r. ⌜ ExchangeSays s j x r ⌝ }
 {
-    push(remove(s, j), x)
+    let count = s.count;
+    let mut i = j + 1;
+    while i < count {
+        let y = s.items[i];
+        s.items[i - 1] = y;
+        i += 1;
+    }
+    s.items[i - 1] = x;
+    s
 }
 
 // ---- ranges

@@ -42,11 +42,8 @@ try-candidate-requires c κs = let r = c .before .before .before .before .before
 exchange-requires : tie.Need-exchange-requires
 exchange-requires c κs = let r = c .before .before .before .before .before .before .before .before .before .before .before .before .before .before .before .before .pre in (r .place, r .list .few)
 
-add-t21 : tie.Need-add-t21
-add-t21 c = omega (arith, c .before .before .before .before .before .before .before .before .before .before .before .before .before .before .before .before .before .before .pre .few-trials)
-
-add-t22 : tie.Need-add-t22
-add-t22 c = omega (arith, c .before .before .before .before .before .before .before .before .before .before .before .before .before .before .before .before .before .before .before .pre .few-trials, c .before .before .before .before .before .before .before .before .before .before .before .before .before .before .before .before .before .before .before .pre .few-taken)
+accept-requires : tie.Need-accept-requires
+accept-requires c κs = let r = c .before .before .before .before .before .before .before .before .before .before .before .before .before .before .before .before .before .pre in (r .few-trials, r .few-taken)
 
 rise-requires-2 : tie.Need-rise-requires-2
 rise-requires-2 c κs = let r = c .before .before .before .before .before .before .before .before .before .before .before .before .before .before .before .before .pre in (omega (arith, r .place, r .list .few), r .few-trials)
@@ -95,13 +92,16 @@ is-lower c = c .if1 .taken
 
 returns-2 : tie.Need-returns-2
 returns-2 c b f e d =
-    let t = c .before .before .before .before .before .before .before .before .before in
-    let s = c .before .before .before .before .before .before .before .before .before .before .before .before .before .before .before .before .before .before .before in
+    let t = c .before .before .before .before .before .before .before .before in
+    let s = c .before .before .before .before .before .before .before .before .before .before .before .before .before .before .before .before .before .before in
     let a = s .args in
-    stepped-taken (sceneAt s b f) (sizeAt s) (a .c) (a .first .now) (a .second .now) d (t .before .before .before .before .before .what .given .0 .0) (t .try-candidate .result)
+    subst
+    (λ (r : Course). Stepped (sceneAt s b f) (sizeAt s) (a .c) r (t .try-candidate .last .1 .1 .1 .1 .1 .1 .1 .0) (t .try-candidate .last .1 .1 .1 .1 .1 .1 .1 .1 .0))
+    (sym (c .accept .ensures))
+    (stepped-taken (sceneAt s b f) (sizeAt s) (a .c) (a .first .now) (a .second .now) d (t .before .before .before .before .before .what .given .0 .0) (t .try-candidate .result)
     (t .try-candidate .last .1 .1 .1 .1 .1 .1 .1 .0) (t .try-candidate .last .1 .1 .1 .1 .1 .1 .1 .1 .0) (e ∙ ap shapeIn (t .before .before .before .before .before .what .given .1)) (new-total t b f d) (drawn-before t b f d)
     (t .try-candidate .kept .1 .1 .1 .1 .1 .1 .1 .0 ∙ s .pre .first-long) (t .try-candidate .kept .1 .1 .1 .1 .1 .1 .1 .1 .0 ∙ s .pre .second-long) (t .try-candidate .ensures .1)
-    (c .before .before .exchange .result) (is-lower (c .before .before .before)) (chosen (t .before .before .before .before .before)) (s .pre .place) (c .before .before .exchange .ensures)
+    (c .before .exchange .result) (is-lower (c .before .before)) (chosen (t .before .before .before .before .before)) (s .pre .place) (c .before .exchange .ensures))
 
 same-length-3 : tie.Need-same-length-3
 same-length-3 c = search needs
@@ -135,8 +135,7 @@ step-spec =
     enum-known-what
     try-candidate-requires
     exchange-requires
-    add-t21
-    add-t22
+    accept-requires
     rise-requires-2
     returns
     same-length
