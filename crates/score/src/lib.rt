@@ -2,7 +2,6 @@
 ghost use mathlib.Core.Path.{_≡_};
 ghost use Prim.Native.Nat.{_≤_};
 ghost use lib.ListN.{length};
-ghost use Rattle.laws.specs.F64.{_⊗_};
 ghost use Rattle.score.specs.Finalize.{
   errorBefore,
   colourOf,
@@ -81,18 +80,16 @@ fn no_score(opacity: f32, count: u32) -> Score
 }
 
 struct Channel {
-    colour: f32,
     before: f64,
     after: f64,
 }
 
-// One channel: its colour, and its error without and with it.
-fn weigh(t: f64, c: f64, tt: f64, cc: f64, tc: f64, a: f64, m: f64, n: f64) -> Channel
-    ensures { λ r. ⌜ (r .colour ≡ colourOf t c m (a ⊗ n)) × (r .before ≡ errorBefore tt tc cc) × (r .after ≡ errorAfter tt tc cc t c a m (r .colour) n) ⌝ }
+// One channel's error without and with its colour. Narrowing stands apart, so that this is inlined and what the channels share is
+// worked out once.
+fn weigh(t: f64, c: f64, tt: f64, cc: f64, tc: f64, a: f64, m: f64, p: f32, n: f64) -> Channel
+    ensures { λ r. ⌜ (r .before ≡ errorBefore tt tc cc) × (r .after ≡ errorAfter tt tc cc t c a m p n) ⌝ }
 {
-    let p = colour(t, c, m, a * n);
     Channel {
-        colour: p,
         before: error_before(tt, tc, cc),
         after: error_after(tt, tc, cc, t, c, a, m, float::widen(p), n),
     }
@@ -114,18 +111,21 @@ pub fn finalize(s: ShapeSums, opacity: f32) -> Score
     let tt = s.s_t2;
     let cc = s.s_c2;
     let tc = s.s_tc;
-    let red = weigh(t[0], c[0], tt[0], cc[0], tc[0], a, m, n);
-    let green = weigh(t[1], c[1], tt[1], cc[1], tc[1], a, m, n);
-    let blue = weigh(t[2], c[2], tt[2], cc[2], tc[2], a, m, n);
-    let before = 0.0 + red.before + green.before + blue.before;
-    let after = 0.0 + red.after + green.after + blue.after;
+    let red = colour(t[0], c[0], m, a * n);
+    let green = colour(t[1], c[1], m, a * n);
+    let blue = colour(t[2], c[2], m, a * n);
+    let first = weigh(t[0], c[0], tt[0], cc[0], tc[0], a, m, red, n);
+    let second = weigh(t[1], c[1], tt[1], cc[1], tc[1], a, m, green, n);
+    let third = weigh(t[2], c[2], tt[2], cc[2], tc[2], a, m, blue, n);
+    let before = 0.0 + first.before + second.before + third.before;
+    let after = 0.0 + first.after + second.after + third.after;
     Score {
         opacity: opacity,
         count: count,
         change: float::narrow(after - before),
-        red: red.colour,
-        green: green.colour,
-        blue: blue.colour,
+        red: red,
+        green: green,
+        blue: blue,
     }
 }
 

@@ -25,6 +25,33 @@ widen-requires-2 c κs = search needs
 int-to-float-n : tie.Need-int-to-float-n
 int-to-float-n c = search needs
 
+array-read-colour : tie.Need-array-read-colour
+array-read-colour c = search needs
+
+array-read-colour-2 : tie.Need-array-read-colour-2
+array-read-colour-2 c = search needs
+
+colour-requires : tie.Need-colour-requires
+colour-requires c κs = search needs
+
+array-read-colour-3 : tie.Need-array-read-colour-3
+array-read-colour-3 c = search needs
+
+array-read-colour-4 : tie.Need-array-read-colour-4
+array-read-colour-4 c = search needs
+
+colour-requires-2 : tie.Need-colour-requires-2
+colour-requires-2 c κs = search needs
+
+array-read-colour-5 : tie.Need-array-read-colour-5
+array-read-colour-5 c = search needs
+
+array-read-colour-6 : tie.Need-array-read-colour-6
+array-read-colour-6 c = search needs
+
+colour-requires-3 : tie.Need-colour-requires-3
+colour-requires-3 c κs = search needs
+
 array-read-weigh : tie.Need-array-read-weigh
 array-read-weigh c = search needs
 
@@ -88,12 +115,15 @@ returns-2 c =
     let b = c .before .before .before .before .before .before .before in
     let g = b .before in
     let r = g .before in
-    let w = r .before .before .before .before .before .before .before in
+    let blue = r .before in
+    let green = blue .before in
+    let red = green .before in
+    let w = red .before .before .before .before .before .before .before in
     let s = w .before .before .before in
     finalized-steps (s .args .s) (s .args .opacity) (w .widen2 .result) (w .before .widen .result) _ _ _ _ _ _ _ _ _ _ _ (w .before .before .if1 .left) (w .widen2 .ensures) (w .before .widen .ensures) refl
+    (red .colour .ensures) (green .colour2 .ensures) (blue .colour3 .ensures)
     (r .weigh .ensures .0) (g .weigh2 .ensures .0) (b .weigh3 .ensures .0)
-    (r .weigh .ensures .1) (g .weigh2 .ensures .1) (b .weigh3 .ensures .1)
-    (r .weigh .ensures .2) (g .weigh2 .ensures .2) (b .weigh3 .ensures .2) (c .narrow .ensures)
+    (r .weigh .ensures .1) (g .weigh2 .ensures .1) (b .weigh3 .ensures .1) (c .narrow .ensures)
 
 pub finalize-spec : {M : Type 1} → statement M
 finalize-spec =
@@ -104,6 +134,15 @@ finalize-spec =
     widen-requires
     widen-requires-2
     int-to-float-n
+    array-read-colour
+    array-read-colour-2
+    colour-requires
+    array-read-colour-3
+    array-read-colour-4
+    colour-requires-2
+    array-read-colour-5
+    array-read-colour-6
+    colour-requires-3
     array-read-weigh
     array-read-weigh-2
     array-read-weigh-3

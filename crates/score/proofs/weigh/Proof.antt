@@ -5,9 +5,6 @@ use borrow.Author.Needs.{needs}
 use Rattle.score.proofs.weigh.Statement.{statement}
 use Rattle.score.proofs.weigh.Tie as tie
 
-colour-requires : tie.Need-colour-requires
-colour-requires c κs = search needs
-
 error-before-requires : tie.Need-error-before-requires
 error-before-requires c κs = search needs
 
@@ -19,10 +16,9 @@ error-after-requires c κs = search needs
 
 returns : tie.Need-returns
 returns c =
-    let p = c .before .before .before in
-    (p .colour .ensures, c .before .before .error-before .ensures, simp (c .before .widen .ensures) at (c .error-after .ensures))
+    (c .before .before .error-before .ensures, simp (c .before .widen .ensures) at (c .error-after .ensures))
 
 pub weigh-spec : {M : Type 1} → statement M
 weigh-spec =
     tie.close
-    (tie.spec colour-requires error-before-requires widen-requires error-after-requires returns)
+    (tie.spec error-before-requires widen-requires error-after-requires returns)
