@@ -4,8 +4,9 @@ pub mod DemandTwo
 pub mod WrittenRules
 pub mod DemandThree
 pub mod ShutOut
--- What a list of paint calls is.
+pub mod PaintShutOut
+-- The words that they use.
 pub mod PaintCalls
--- Tools of the proofs.
+-- What they rest on.
 pub mod KeepLaws
 pub mod OnceLaws
