@@ -1,7 +1,7 @@
 -- `session::sheet::channel` meets its contract: a division.
-use mathlib.Core.Path.{_≡_, refl}
+use mathlib.Core.Path.{_≡_, refl, ap}
 use lib.IntN.{pos}
-use lib.Ieee.{binary32, ofBits, ofInt, round}
+use lib.Ieee.{Float, binary32, ofBits, ofInt, div, round}
 use borrow.Author.Needs.{needs}
 use Rattle.session.specs.Session.{channel}
 use Rattle.session.proofs.sheet.channel.Statement.{statement}
@@ -16,7 +16,7 @@ int-to-float-result c = search needs
 
 returns : tie.Need-returns
 unfolding channel
-returns c = rw whole-is refl
+returns c = ap (λ (x : Float). div binary32 (ofInt binary32 (pos (c .before .args .b))) x) whole-is
 
 pub channel-spec : {M : Type 1} → statement M
 channel-spec = tie.close (tie.spec int-to-float-result returns)
