@@ -224,7 +224,7 @@ class Rust:
             self.rustc = os.environ.get("RUSTC") or (found[0] if found else None)
             wanted = "dpkg --add-architecture amd64 && apt-get update && apt-get install -y --no-install-recommends rustc-web libstd-rust-web-dev:amd64 gcc-x86-64-linux-gnu libc6-dev-amd64-cross qemu-user"
             if self.rustc is None:
-                die("our archives are for x86-64, and this machine is Arm: no rustc for x86-64 here. On Debian, as root:\n  " + wanted)
+                die("our archives are for x86-64, and this machine is Arm: no rustc for x86-64 here. On Debian, as root, run rust/setup-arm, which does:\n  " + wanted)
             need("x86_64-linux-gnu-gcc", "it links x86-64 programs. On Debian, as root:\n  " + wanted)
             need("qemu-x86_64", "it runs x86-64 programs. On Debian, as root:\n  " + wanted)
             self.words = ["--target", "x86_64-unknown-linux-gnu", "-C", "linker=x86_64-linux-gnu-gcc"]
