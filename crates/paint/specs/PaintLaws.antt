@@ -2,14 +2,18 @@
 use mathlib.Core.Path.{_≡_, refl, sym, ap, _∙_, subst}
 use mathlib.Core.Bool.{Bool, true, false, not, _||_}
 use mathlib.Core.List.{List, [], _∷_}
-use Prim.Native.Nat.{ℕ, _+_, _*_}
+use mathlib.Core.Logic.{_⊎_, inl, inr}
+use Prim.Native.Nat.{ℕ, _+_, _*_, _<_}
+use native.Mathlib.Omega.{arith}
 use native.Mathlib.Decide.{ℕ-discrete}
 use lib.Dec.{T}
 use lib.ListN.{length}
 use lib.IntN.{ℤ}
+use lib.Signed.{_<ℤ_}
 use lib.Ieee.{Float}
 use borrow.Author.Tests.{not-false}
-use Rattle.laws.specs.Bools.{or-left, or-right, true-is}
+use Rattle.laws.specs.Parts.{zord}
+use Rattle.laws.specs.Bools.{or-left, or-right, true-is, true-or-false}
 use Rattle.float.specs.Within.{within}
 use Rattle.refusal.specs.Refusals.{Test, Sized, lowest, sizeIf, lengthIf, placeIf, opacityIf, colourIf, badSize}
 use Rattle.refusal.specs.RefusalLaws.{lowest-none, sized}
@@ -18,9 +22,11 @@ use Rattle.refusal.specs.LengthLaws.{picture-length, table-length}
 use Rattle.refusal.specs.ThreeTests.{two-passed, two-none}
 use Rattle.refusal.specs.ChainLaws.{passed-by, met, none-left}
 use Rattle.cover.specs.declared.Kind.{Kind}
-use Rattle.cover.specs.Cover.{badPlaces, reach}
+use Rattle.cover.specs.declared.Reach.{Reach}
+use Rattle.cover.specs.Cover.{covered, badPlaces, reach, RowReachSays}
+use Rattle.cover.specs.CoverLaws.{in-reach}
 use Rattle.picture.specs.Painting.{BlendSays}
-use Rattle.picture.specs.PaintingLaws.{length-painted}
+use Rattle.picture.specs.PaintingLaws.{length-painted, painted-nothing}
 use Rattle.picture.specs.Pixels.{badColour}
 use Rattle.table.specs.Table.{badLengths, Updated, updateRefusal, UpdateCanvasRowsSays}
 use Rattle.table.specs.TableLaws.{updated-only}
@@ -126,6 +132,19 @@ module _ (kind : Kind) (opacity red green blue : Float) (w h target canvas table
     at-none p q r =
         first-two (passed-by (placeIf (badPlaces kind)) opacityTests p
         (passed-by (opacityIf (not (within opacity))) colourTest q (passed-by (colourIf (badColour red green blue)) [] r none-left)))
+
+-- ---- a shape whose reach is empty paints nothing
+pub painted-empty : (kind : Kind) (opacity red green blue : Float) (w h : ℕ) (canvas : List Float) (ends : Reach)
+    → length canvas ≡ h * w * 3 → RowReachSays kind h ends → ends .last <ℤ ends .first → BlendSays kind opacity red green blue w h canvas canvas
+painted-empty kind opacity red green blue w h canvas ends size e o =
+    sym (painted-nothing kind opacity red green blue w h canvas size (λ x y m l. bare x y l (true-or-false (covered kind x y))))
+  where
+    gone : reach kind h .last <ℤ reach kind h .first
+    gone = subst (λ (r : Reach). r .last <ℤ r .first) e o
+
+    bare : (x y : ℕ) → y < h → (covered kind x y ≡ true) ⊎ (covered kind x y ≡ false) → covered kind x y ≡ false
+    bare x y l (inl t) = let b = in-reach kind x y h l t in absurd (omega (arith, zord, gone, b .0, b .1))
+    bare x y l (inr n) = n
 
 -- ---- the picture keeps its length, so the update is not refused
 pub both-done : (kind : Kind) (opacity red green blue : Float) (w h : ℕ) (target canvas table newCanvas newTable : List Float) (ymin ymax : ℤ) (k : ℕ)

@@ -1,10 +1,14 @@
 // The paint call: a shape is blended into the picture, then the table is updated over the shape's row reach.
 ghost use mathlib.Core.Path.{_≡_};
 ghost use mathlib.Core.Bool.{false};
+ghost use Prim.Native.Nat.{_*_};
 ghost use lib.ListN.{length};
-ghost use Rattle.cover.specs.Cover.{badPlaces};
+ghost use Rattle.refusal.specs.Refusals.{Sized};
+ghost use Rattle.cover.specs.Cover.{badPlaces, RowReachSays};
+ghost use Rattle.picture.specs.Painting.{BlendSays};
 ghost use Rattle.paint.specs.Paint.{lengthsRefusal, paintRefusal, Painted, PaintSays};
 use cover::Kind;
+use cover::Reach;
 
 // Refusals: 1 size, 2 a length, 4 place, 5 opacity, 6 colour; then no number of `canvas` or `table` has changed. 0 is done.
 pub fn paint(
@@ -107,7 +111,32 @@ fn paint_both(
     requires places { ⌜ badPlaces kind ≡ false ⌝ }
     ensures { λ _. ⌜ Painted kind opacity red green blue w h (now (target .entry)) (now (canvas .entry)) (now (table .entry)) (now (canvas .exit)) (now (table .exit)) ⌝ }
 {
-    picture::blend(kind, opacity, red, green, blue, w, h, canvas);
     let reach = cover::row_reach(kind, h);
+    blend_reached(kind, opacity, red, green, blue, w, h, reach, canvas);
     table::update_canvas_rows(target, canvas, w, h, table, reach.first, reach.last);
+}
+
+// A shape that reaches no row has no pixel: then not even its runs are worked out.
+fn blend_reached(
+    kind: Kind,
+    opacity: f32,
+    red: f32,
+    green: f32,
+    blue: f32,
+    w: usize,
+    h: usize,
+    reach: Reach,
+    canvas: &mut [f32],
+)
+    requires sizes { ⌜ Sized w h ⌝ }
+    requires places { ⌜ badPlaces kind ≡ false ⌝ }
+    requires picture { ⌜ length (now canvas) ≡ h * w * 3 ⌝ }
+    requires rows { ⌜ RowReachSays kind h reach ⌝ }
+    ensures { λ _. ⌜ BlendSays kind opacity red green blue w h (now (canvas .entry)) (now (canvas .exit)) ⌝ }
+{
+    let first = reach.first;
+    let last = reach.last;
+    if first <= last {
+        picture::blend(kind, opacity, red, green, blue, w, h, canvas);
+    }
 }

@@ -192,6 +192,7 @@ fn strokes() {
         0.25,
         0.0,
     );
+    stroke(b"one row", Kind::Circle(1, -1, 1), 0.5, 1.0, 0.25, 0.0);
     stroke(b"below", Kind::Circle(1, 9, 2), 0.5, 1.0, 0.25, 0.0);
     stroke(b"beside", Kind::Circle(20, 1, 3), 0.5, 1.0, 0.25, 0.0);
     stroke(
