@@ -1,6 +1,6 @@
 //! Refinement of 64 shapes, for one trial: mostly rejected candidates, and mixed ones.
 //! Both sides draw and total as their own code does; the Rust's painter is `apply_*`.
-//! Needs: probe_refine_shapes
+//! Needs: sillbadger_refine
 
 use crate::generator::Draw;
 use crate::harness::{taken, Entry};
@@ -43,7 +43,7 @@ fn apply(canvas: &mut [f32], s: &Shape, w: i32, h: i32) {
 
 fn flat(list: &[Shape]) -> (Vec<u8>, Vec<i32>, Vec<f32>) {
     (
-        list.iter().map(|s| s.kind).collect(),
+        list.iter().map(|s| [0, 3, 6, 8][s.kind as usize]).collect(),
         list.iter().flat_map(|s| s.places).collect(),
         list.iter().flat_map(|s| s.paint).collect(),
     )
@@ -75,8 +75,8 @@ fn entry(name: &'static str, w: usize, h: usize, passes: usize, rejected: bool, 
     let target2 = target.clone();
     let run = move |first: &mut [f32], second: &mut [f32]| {
         let (mut t, mut z, mut p) = (tags.clone(), places.clone(), paints.clone());
-        let r = ours::probe_refine_shapes(
-            &mut t, &mut z, &mut p, 64, &offered_tags, &offered_places, &offered_paints, 1024, passes, background[0], background[1], background[2], w, h, &target, first, second,
+        let r = ours::sillbadger_refine(
+            w as u32, h as u32, background[0], background[1], background[2], &mut t, &mut z, &mut p, &offered_tags, &offered_places, &offered_paints, passes as u32, &target, first, second,
         );
         (r, summed(first, (0..64).map(|i| p[4 * i])))
     };

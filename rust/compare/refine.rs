@@ -1,5 +1,5 @@
 //! Refinement: our call beside the Rust's `refine_shapes`, with a candidate list as its search and `apply_*` as its painter.
-//! Needs: probe_refine_shapes
+//! Needs: sillbadger_refine
 
 use crate::generator::Draw;
 use crate::harness::{unequal, Comparison};
@@ -137,17 +137,18 @@ fn rust(c: &Call) -> Answer {
     (0, passes, trials, accepted, last, picture.clone(), picture)
 }
 
+/// A list as it crosses: of each shape its number of coordinates, eight places for them, four floats.
 struct Flat {
-    tags: Vec<u8>,
+    sizes: Vec<u8>,
     places: Vec<i32>,
     paints: Vec<f32>,
 }
 
-fn flat<'a>(shapes: impl Iterator<Item = Option<&'a Plain>>, room: usize) -> Flat {
-    let mut f = Flat { tags: vec![0; room], places: vec![0; room * 8], paints: vec![0.0; room * 4] };
-    for (i, s) in shapes.enumerate().take(room) {
+fn flat<'a>(shapes: impl Iterator<Item = Option<&'a Plain>>, count: usize) -> Flat {
+    let mut f = Flat { sizes: vec![0; count], places: vec![0; count * 8], paints: vec![0.0; count * 4] };
+    for (i, s) in shapes.enumerate() {
         let Some(s) = s else { continue };
-        f.tags[i] = s.kind as u8;
+        f.sizes[i] = places(s.kind) as u8;
         for (j, z) in s.places.iter().enumerate() {
             f.places[i * 8 + j] = *z as i32;
         }
@@ -157,8 +158,8 @@ fn flat<'a>(shapes: impl Iterator<Item = Option<&'a Plain>>, room: usize) -> Fla
 }
 
 fn plain(f: &Flat, i: usize) -> Plain {
-    let kind = f.tags[i] as i64;
-    let n = places(kind);
+    let n = f.sizes[i] as usize;
+    let kind = (1..=3).find(|k| places(*k) == n).unwrap();
     Plain {
         kind,
         places: f.places[i * 8..i * 8 + n].iter().map(|z| *z as i64).collect(),
@@ -168,31 +169,29 @@ fn plain(f: &Flat, i: usize) -> Plain {
 
 /// The work pictures hold anything at first.
 fn ours(c: &Call) -> Answer {
-    let mut list = flat(c.list.iter().map(Some), SHAPES);
-    let offers = flat(c.offers.iter().map(Option::as_ref), OFFERS);
+    let mut list = flat(c.list.iter().map(Some), c.list.len());
+    let offers = flat(c.offers.iter().map(Option::as_ref), c.offers.len());
     let n = (c.w * c.h * 3) as usize;
     let (mut first, mut second) = (vec![f32::NAN; n], vec![-7.5; n]);
-    let r = ours::probe_refine_shapes(
-        &mut list.tags,
-        &mut list.places,
-        &mut list.paints,
-        c.list.len(),
-        &offers.tags,
-        &offers.places,
-        &offers.paints,
-        c.offers.len(),
-        c.passes as usize,
+    let r = ours::sillbadger_refine(
+        c.w as u32,
+        c.h as u32,
         c.background[0],
         c.background[1],
         c.background[2],
-        c.w as usize,
-        c.h as usize,
+        &mut list.sizes,
+        &mut list.places,
+        &mut list.paints,
+        &offers.sizes,
+        &offers.places,
+        &offers.paints,
+        c.passes as u32,
         &c.target,
         &mut first,
         &mut second,
     );
-    let last = (0..r.count.min(SHAPES)).map(|i| plain(&list, i)).collect();
-    (r.refusal, r.passes, r.trials, r.acceptances, last, bits(&first), bits(&second))
+    let last = (0..c.list.len()).map(|i| plain(&list, i)).collect();
+    (r.refusal as u8, r.passes as usize, r.trials as usize, r.acceptances as usize, last, bits(&first), bits(&second))
 }
 
 /// What two answers look like, short: the pictures by the first place where they differ.
@@ -234,19 +233,14 @@ const SPOILS: [(&str, u8); 16] = [
 fn refused(case: &[i64]) -> Option<(String, String)> {
     let mut d = Draw::named(case[0] as u64, "refusals");
     let spoilt = |i: usize| case[1] >> i & 1 == 1;
-    let c = call(&[case[0], 4, 3, 2, 2, case[2]]);
-    let mut list = flat(c.list.iter().map(Some), SHAPES);
+    let c = call(&[case[0], 4, 3, if spoilt(5) { SHAPES as i64 + 1 } else { 2 }, if spoilt(6) { OFFERS as i64 + 1 } else { 2 }, case[2]]);
+    let mut list = flat(c.list.iter().map(Some), c.list.len());
     // the second offer is nothing, and so never looked at, whatever its numbers
-    let mut offers = flat(c.offers.iter().map(Option::as_ref), OFFERS);
-    offers.tags[0] = 1;
-    offers.tags[1] = 0;
+    let mut offers = flat(c.offers.iter().map(Option::as_ref), c.offers.len());
+    offers.sizes[0] = 3;
+    offers.sizes[1] = 0;
     offers.places[8] = 9000;
     offers.paints[4] = 2.0;
-    // past the counts nothing is looked at
-    list.tags[2] = 1;
-    list.places[16] = 9000;
-    offers.tags[2] = 1;
-    offers.paints[8] = f32::NAN;
     let far = d.one_of(&[8192, -8192, i32::MAX, i32::MIN]);
     let out = d.one_of(&[-0.1, 1.000_000_1, f32::NAN, f32::INFINITY, -1e-45]);
     let mut background = c.background;
@@ -264,24 +258,21 @@ fn refused(case: &[i64]) -> Option<(String, String)> {
     let (mut first, mut second) = (vec![f32::NAN; 36], vec![3.0; 36]);
     if spoilt(3) { first.pop(); }
     if spoilt(4) { second.push(0.0) }
-    let size = d.one_of(&[0usize, 257, 1 << 40]);
-    let (f, s) = (bits(&first), bits(&second));
-    let (tags, numbers, paints) = (list.tags.clone(), list.places.clone(), bits(&list.paints));
-    let r = ours::probe_refine_shapes(
-        &mut list.tags,
-        &mut list.places,
-        &mut list.paints,
-        if spoilt(5) { d.one_of(&[65, usize::MAX]) } else { 2 },
-        &offers.tags,
-        &offers.places,
-        &offers.paints,
-        if spoilt(6) { d.one_of(&[1025, usize::MAX]) } else { 2 },
-        if spoilt(7) { d.one_of(&[17, usize::MAX]) } else { case[2] as usize },
+    let size = d.one_of(&[0, 257, u32::MAX]);
+    let before = (list.sizes.clone(), list.places.clone(), bits(&list.paints), bits(&first), bits(&second));
+    let r = ours::sillbadger_refine(
+        if spoilt(0) { size } else { 4 },
+        if spoilt(1) { size } else { 3 },
         background[0],
         background[1],
         background[2],
-        if spoilt(0) { size } else { 4 },
-        if spoilt(1) { size } else { 3 },
+        &mut list.sizes,
+        &mut list.places,
+        &mut list.paints,
+        &offers.sizes,
+        &offers.places,
+        &offers.paints,
+        if spoilt(7) { d.one_of(&[17, u32::MAX]) } else { case[2] as u32 },
         &target,
         &mut first,
         &mut second,
@@ -290,15 +281,8 @@ fn refused(case: &[i64]) -> Option<(String, String)> {
     if due == 0 {
         return unequal(r.refusal, 0);
     }
-    let kept = (0..2).all(|i| {
-        list.tags[i] == tags[i]
-            && list.places[8 * i..8 * i + places(tags[i] as i64)] == numbers[8 * i..8 * i + places(tags[i] as i64)]
-            && bits(&list.paints[4 * i..4 * i + 4]) == paints[4 * i..4 * i + 4]
-    });
-    unequal(
-        (r.refusal, r.passes, r.trials, r.acceptances, kept, bits(&first) == f, bits(&second) == s),
-        (due, 0, 0, 0, true, true, true),
-    )
+    let after = (list.sizes, list.places, bits(&list.paints), bits(&first), bits(&second));
+    unequal((r.refusal, r.passes, r.trials, r.acceptances, before == after), (due as u32, 0, 0, 0, true))
 }
 
 pub fn comparisons() -> Vec<Comparison> {

@@ -179,8 +179,9 @@ fn refined(
         what: Candidate::Nothing,
     };
     let mut slots = [nothing; 1024];
+    let end = whole::min_usize(m, 1024);
     let mut i = 0;
-    while i < 1024 {
+    while i < end {
         let what = offer(seed, i);
         slots[i] = Slot { what };
         i += 1;
@@ -317,14 +318,15 @@ fn main() {
     run(7, 4, 3, 2, 2, 1);
     run(6, 7, 5, 3, 1, 2);
     run(7, 9, 6, 4, 6, 3);
-    run(8, 12, 16, 5, 12, 4);
-    run(9, 16, 12, 6, 40, 16);
+    run(8, 6, 8, 5, 12, 4);
+    run(313, 8, 6, 12, 192, 16);
     // at the bounds, and past them
-    run(16, 5, 4, 64, 1024, 16);
-    run(11, 5, 4, 65, 1024, 16);
-    run(12, 5, 4, 4, 64, 17);
-    run(13, 5, 4, 4, 1025, 2);
-    run(14, 0, 4, 65, 0, 0);
+    run(10, 3, 2, 64, 2, 1);
+    run(11, 3, 2, 2, 1024, 16);
+    run(12, 3, 2, 65, 2, 1);
+    run(13, 3, 2, 2, 1025, 16);
+    run(14, 3, 2, 2, 4, 17);
+    run(15, 0, 4, 65, 0, 0);
     // at the margin, a little below and above it
     edge(1540.0, 1180.0, 860.0);
     edge(1541.0, 1180.0, 860.0);

@@ -11,14 +11,17 @@ use Rattle.run_refine.proofs.list_of.Reads as list-of-reads
 use Rattle.run_refine.proofs.offer.Reads as offer-reads
 
 abbrev Inv-loop : tie.InvT-loop
-Inv-loop seed w h n m passes target first second slots₀ i₀ slots i =
-    (i ≤ 1024) × (length slots ≡ 1024)
+Inv-loop seed w h n m passes target first second slots₀ end i₀ slots i =
+    (i ≤ end) × (end ≤ 1024) × (length slots ≡ 1024)
 
 abbrev μ-loop : tie.MeasureT-loop
-μ-loop seed w h n m passes target first second slots₀ i₀ slots i = 1024 - i
+μ-loop seed w h n m passes target first second slots₀ end i₀ slots i = end - i
+
+min-usize-requires : tie.Need-min-usize-requires Inv-loop μ-loop
+min-usize-requires c κs = search needs
 
 loop-holds : tie.Need-loop-holds Inv-loop μ-loop
-loop-holds c = search needs
+loop-holds c = (omega arith, omega (arith, c .min-usize .ensures), search needs)
 
 offer-requires : tie.Need-offer-requires Inv-loop μ-loop
 offer-requires c κs = search needs
@@ -68,6 +71,7 @@ refined-spec =
     (tie.spec
     Inv-loop
     μ-loop
+    min-usize-requires
     loop-holds
     offer-requires
     mul-slots
