@@ -11,3 +11,4 @@ pub mod Scoring
 pub mod RunSums
 pub mod ScoringLaws
 pub mod CallLaws
+pub mod CountLaws
