@@ -1461,6 +1461,19 @@ fn part_20() {
         70,
         float::of_bits32(0x3f00_0000),
     );
+    // sweep, sums 1.5 1.5 1.25 1.25 1.25 of 3 pixels, 64 levels
+    swept(
+        float::of_bits64(0x3ff80000_00000000),
+        float::of_bits64(0x3ff80000_00000000),
+        float::of_bits64(0x3ff40000_00000000),
+        float::of_bits64(0x3ff40000_00000000),
+        float::of_bits64(0x3ff40000_00000000),
+        3,
+        64,
+        64,
+        70,
+        float::of_bits32(0x3f00_0000),
+    );
     // sweep, sums inf 1.0 inf 1.0 1.0 of 2 pixels, 64 levels
     swept(
         float::of_bits64(0x7ff00000_00000000),
@@ -1474,6 +1487,9 @@ fn part_20() {
         70,
         float::of_bits32(0x3f00_0000),
     );
+}
+
+fn part_21() {
     // sweep, sums 1.0 1.0 1e+300 -1e+300 1.0 of 2 pixels, 64 levels
     swept(
         float::of_bits64(0x3ff00000_00000000),
@@ -1487,9 +1503,6 @@ fn part_20() {
         70,
         float::of_bits32(0x3f00_0000),
     );
-}
-
-fn part_21() {
     // sweep, sums 1.0 1.0 1.0 -1e+300 1.0 of 5 pixels, 3 levels
     swept(
         float::of_bits64(0x3ff00000_00000000),
@@ -1542,6 +1555,9 @@ fn part_21() {
         70,
         float::of_bits32(0x3f00_0000),
     );
+}
+
+fn part_22() {
     // sweep, sums 3.0 1.5 2.5 1.0 1.0 of 4 pixels, 65 levels
     swept(
         float::of_bits64(0x40080000_00000000),
@@ -1555,9 +1571,6 @@ fn part_21() {
         70,
         float::of_bits32(0x3f00_0000),
     );
-}
-
-fn part_22() {
     // sweep, sums 3.0 1.5 2.5 1.0 1.0 of 4 pixels, 65 levels, 63 levels lent
     swept(
         float::of_bits64(0x40080000_00000000),
