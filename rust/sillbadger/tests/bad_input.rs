@@ -4,7 +4,8 @@
 
 use sillbadger::face::*;
 
-const CASES: u32 = 60_000;
+/// Fewer without optimisation, where they take long.
+const CASES: u32 = if cfg!(debug_assertions) { 6_000 } else { 60_000 };
 
 struct Draw(u64);
 
