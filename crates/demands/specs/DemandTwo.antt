@@ -8,19 +8,9 @@ use native.Mathlib.Decide.{ℕ-discrete}
 use borrow.Author.Tests.{eq-eqb, ne-eqb}
 use lib.Dec.{eqb}
 use lib.Ieee.{Float}
-use Rattle.laws.specs.Answer.{Answer}
-use Rattle.laws.specs.Ends.{Ends, none, ends, endsOf, leftOf, rightOf, bit, howMany, total}
-use Rattle.laws.specs.EndsLaws.{ends-run, run-count}
-use Rattle.laws.specs.PixelSums.{addSpan, spanSum, pointRow, pointSum}
 use Rattle.cover.specs.declared.Kind.{Kind}
-use Rattle.cover.specs.declared.Counted.{Counted}
-use Rattle.cover.specs.Cover.{covered, count, refusalOf}
-use Rattle.cover.specs.CoverLaws.{convex}
-use Rattle.cover.specs.Answers.{countAnswer, CountCoveredSays}
+use Rattle.cover.specs.Cover.{count}
 use Rattle.sums.specs.declared.ShapeSums.{ShapeSums}
-use Rattle.sums.specs.Sums.{noSums, pixelSums, plus, minus}
-use Rattle.table.specs.Layout.{placeOf}
-use Rattle.table.specs.ReadLaws.{span-count}
 use Rattle.score.specs.declared.Request.{Request}
 use Rattle.score.specs.declared.Request.the-variants.{Opacity, Levels}
 use Rattle.score.specs.declared.Score.{Score}
@@ -29,57 +19,18 @@ use Rattle.score.specs.declared.Scored.the-variants.{Done, Refused}
 use Rattle.score.specs.Finalize.{noScore, finalized}
 use Rattle.score.specs.Sweep.{Found, nowhere, at, bestOf}
 use Rattle.score.specs.Swept.{level, changeOf, sweptAt, swept}
-use Rattle.score.specs.Scoring.{pixelAt, spanSums, pointSums, scoreAt, spanRefusal, pointRefusal, answered, SpanScoreSays, PointScoreSays}
+use Rattle.score.specs.CountLaws.{spans-count, points-count}
+use Rattle.score.specs.Scoring.{spanSums, pointSums, scoreAt, spanRefusal, pointRefusal, answered, SpanScoreSays, PointScoreSays}
 
 -- ---- the count of a span score and of a point score
 
-plus-count : (a b : ShapeSums) → plus a b .count ≡ a .count + b .count
-unfolding plus
-plus-count a b = refl
+-- "a count not equal to the covered pixels": by spans
+pub span-count-is-covered : (kind : Kind) (w h : ℕ) (table : List Float) → spanSums kind w h table .count ≡ count kind w h
+span-count-is-covered kind w h table = spans-count kind w h table
 
-module _ (kind : Kind) (w : ℕ) where
-  -- a row's run has as many pixels as are covered in it
-  row-count : (table : List Float) (y : ℕ) (s : ShapeSums)
-      → addSpan noSums plus minus (placeOf w table y) (endsOf (λ x. covered kind x y) w) s .count ≡ s .count + howMany (λ x. covered kind x y) w
-  row-count table y s =
-      by (endsOf (λ x. covered kind x y) w)
-      ∙ ap (λ (k : ℕ). s .count + k) (sym (run-count (λ x. covered kind x y) w (leftOf (endsOf (λ x. covered kind x y) w)) (rightOf (endsOf (λ x. covered kind x y) w)) (ends-run (λ x. covered kind x y) (convex kind y) w)))
-    where
-      by : (e : Ends) → addSpan noSums plus minus (placeOf w table y) e s .count ≡ s .count + (rightOf e - leftOf e)
-      by none = omega arith
-      by (ends l r) =
-          plus-count s (minus (placeOf w table y (r + 1)) (placeOf w table y l))
-          ∙ ap (λ (k : ℕ). s .count + k) (span-count w table y l (r + 1))
-
-  -- "a count not equal to the covered pixels": by spans
-  pub span-count-is-covered : (h : ℕ) (table : List Float) → spanSums kind w h table .count ≡ count kind w h
-  unfolding spanSums count spanSum total noSums
-  span-count-is-covered zero table = refl
-  span-count-is-covered (suc y) table =
-      row-count table y (spanSums kind w y table) ∙ ap (λ (k : ℕ). k + howMany (λ x. covered kind x y) w) (span-count-is-covered y table)
-
-  -- one pixel more in a row
-  point-row-count : (target canvas : List Float) (y n : ℕ) (s : ShapeSums)
-      → pointRow noSums plus minus (pixelAt w target canvas y) (λ x. covered kind x y) n s .count ≡ s .count + howMany (λ x. covered kind x y) n
-  unfolding pointRow howMany plus pixelSums
-  point-row-count target canvas y zero s = omega arith
-  point-row-count target canvas y (suc x) s = by (covered kind x y) (point-row-count target canvas y x s)
-    where
-      before : ShapeSums
-      before = pointRow noSums plus minus (pixelAt w target canvas y) (λ x. covered kind x y) x s
-
-      by : (b : Bool) → before .count ≡ s .count + howMany (λ x. covered kind x y) x
-          → cond b (plus before (pixelAt w target canvas y x)) before .count ≡ s .count + (howMany (λ x. covered kind x y) x + bit b)
-      by true e = omega (arith, e)
-      by false e = omega (arith, e)
-
-  -- "Point sums add pixel by pixel in row order instead; their count is the same"
-  pub point-count-is-covered : (h : ℕ) (target canvas : List Float) → pointSums kind w h target canvas .count ≡ count kind w h
-  unfolding pointSums count pointSum total noSums
-  point-count-is-covered zero target canvas = refl
-  point-count-is-covered (suc y) target canvas =
-      point-row-count target canvas y w (pointSums kind w y target canvas)
-      ∙ ap (λ (k : ℕ). k + howMany (λ x. covered kind x y) w) (point-count-is-covered y target canvas)
+-- "Point sums add pixel by pixel in row order instead; their count is the same"
+pub point-count-is-covered : (kind : Kind) (w h : ℕ) (target canvas : List Float) → pointSums kind w h target canvas .count ≡ count kind w h
+point-count-is-covered kind w h target canvas = points-count kind w h target canvas
 
 -- a score has the count of its sums
 finalized-count : (s : ShapeSums) (a : Float) → finalized s a .count ≡ s .count
