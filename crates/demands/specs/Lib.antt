@@ -3,6 +3,7 @@ pub mod DemandOne
 pub mod DemandTwo
 pub mod WrittenRules
 pub mod DemandThree
+pub mod StarredFigures
 pub mod ShutOut
 pub mod PaintShutOut
 -- The words that they use.
