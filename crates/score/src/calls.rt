@@ -63,7 +63,7 @@ fn request_refusal(kind: Kind, request: Request, levels: &[f32]) -> u8
         return refusal::COUNT;
     }
     if cover::bad_places(kind) {
-        return refusal::PLACE;
+        return refusal::PLACE; // goes before the opacity
     }
     if bad_opacity(request, levels) {
         return refusal::OPACITY;
