@@ -87,9 +87,11 @@ pub fn main(entries: Vec<Entry>) {
         let each = runs as f64 * e.units as f64;
         let ratio = median(ours.iter().zip(&rust).map(|(a, b)| a / b).collect());
         let (a, b) = (median(ours) / each, median(rust) / each);
-        if let Some((stem, size)) = e.name.rsplit_once(", ").filter(|(_, size)| size.contains(" by ")) {
+        // the size stands between commas; the rest of the name is what several sizes share
+        if let Some(size) = e.name.split(", ").find(|part| part.contains(" by ")) {
+            let stem = e.name.split(", ").filter(|part| *part != size).collect::<Vec<_>>().join(", ");
             let units = e.units as f64;
-            sized.push((stem.to_string(), size.to_string(), a * units, b * units));
+            sized.push((stem, size.to_string(), a * units, b * units));
         }
         println!(
             "{:44} {:>12} {:>12} {:>7.2}{}",
