@@ -109,6 +109,20 @@ fn grouped(n: u64) -> String {
     out
 }
 
+/// What a long fixed list is thinned to in a short run.
+const THINNED: u64 = 20_000;
+
+/// Every how many of a fixed list's cases are run: each one from a million cases on; in a shorter run so many of a long list, evenly,
+/// that some twenty thousand are. An odd step, so that it does not fall in with lists that go by powers of two.
+fn step(c: &Comparison, amount: Amount) -> u64 {
+    if matches!(amount, Amount::Cases(n) if n >= 1_000_000) {
+        return 1;
+    }
+    let mut all = 0u64;
+    (c.fixed)(&mut |_| all += 1);
+    if all <= THINNED { 1 } else { (all / THINNED) | 1 }
+}
+
 /// Runs one comparison and prints its line. Answers whether it passed.
 fn ran(build: &str, c: &Comparison, amount: Amount, seed: u64) -> bool {
     let start = Instant::now();
@@ -126,9 +140,14 @@ fn ran(build: &str, c: &Comparison, amount: Amount, seed: u64) -> bool {
             }
         }
     };
+    let every = step(c, amount);
+    let mut place = 0u64;
     (c.fixed)(&mut |case| {
-        fixed += 1;
-        see(case);
+        if place % every == 0 {
+            fixed += 1;
+            see(case);
+        }
+        place += 1;
     });
     let mut draw = Draw::named(seed, c.name);
     let mut case = Vec::new();
