@@ -13,7 +13,7 @@ use Rattle.laws.specs.Runs.{allHold}
 use Rattle.laws.specs.EndsLaws.{RunOf, run-ends}
 use Rattle.laws.specs.Holds.{hold-at, all-hold}
 use Rattle.polygon.specs.Polygon.{Point, at, area2, areaTest, edgeTest, edgesTo, round, polygonTests, polygon, corners, polygonPixel}
-use Rattle.polygon.specs.Steps.{signOf, nextOf, Kept, Inner, Signed, RowRun}
+use Rattle.polygon.specs.Steps.{signOf, nextOf, Kept, corner, InnerAt, First, Closed, Signed, RowRun}
 use Rattle.polygon.specs.Sides.{edge-inner, inner-edge}
 use Rattle.polygon.specs.StepLaws.{next-in, next-out}
 
@@ -68,17 +68,6 @@ corners-at (x ∷ xs) (y ∷ ys) zero e = refl
 corners-at (x ∷ xs) (y ∷ ys) (suc i) e = corners-at xs ys i (omega arith)
 
 -- ---- a row by the edges
-abbrev pub corner : List ℤ → List ℤ → ℕ → Point
-corner xs ys i = at (getD xs i (pos 0)) (getD ys i (pos 0))
-
--- inside of the edge from corner i
-abbrev pub InnerAt : List ℤ → List ℤ → ℤ → ℤ → ℕ → ℕ → Type 0
-InnerAt xs ys sign y x i = Inner sign (corner xs ys i) (corner xs ys (nextOf (length xs) i)) y x
-
--- inside of the first m edges
-abbrev pub First : List ℤ → List ℤ → ℤ → ℤ → ℕ → ℕ → Type 0
-First xs ys sign y m x = (i : ℕ) → i < m → InnerAt xs ys sign y x i
-
 module _ (xs ys : List ℤ) (same : length ys ≡ length xs) where
   edge-at : (t : Point → Point → Bool) (i : ℕ) → i < length xs → getD (round t (corners xs ys)) i true ≡ t (corner xs ys i) (corner xs ys (nextOf (length xs) i))
   edge-at t i h =
@@ -104,28 +93,28 @@ module _ (xs ys : List ℤ) (same : length ys ≡ length xs) where
         (all-hold (round t (corners xs ys)) true
         (λ i l. edge-at t i (omega arith) ∙ inner-edge (area2 (corners xs ys)) (at (pos x) y) (corner xs ys i) (corner xs ys (nextOf (length xs) i)) (f i (omega arith))))
 
-  -- ---- edge after edge: the columns below w that are inside of the first m
-  pub first-none : (sign y : ℤ) (w : ℕ) → Kept (First xs ys sign y 0) 0 w 0 w
-  first-none sign y w = record {
+  -- ---- edge after edge: of the columns lo up to hi, those that are inside of the first m
+  pub first-none : (sign y : ℤ) (lo hi : ℕ) → Kept (First xs ys sign y 0) lo hi lo hi
+  first-none sign y lo hi = record {
     within = omega arith;
     to = λ x p q. (p, λ i l. absurd (omega arith));
     from = λ x p q f. (p, q);
   }
 
-  pub first-more : (sign y : ℤ) (m w lo hi left right : ℕ) → Kept (First xs ys sign y m) 0 w lo hi → Kept (λ x. InnerAt xs ys sign y x m) lo hi left right
-      → Kept (First xs ys sign y (m + 1)) 0 w left right
-  first-more sign y m w lo hi left right f g = record {
+  pub first-more : (sign y : ℤ) (m lo hi u v left right : ℕ) → Kept (First xs ys sign y m) lo hi u v → Kept (λ x. InnerAt xs ys sign y x m) u v left right
+      → Kept (First xs ys sign y (m + 1)) lo hi left right
+  first-more sign y m lo hi u v left right f g = record {
     within = omega (arith, f .within, g .within);
-    to = λ x p q. (omega arith, λ i l. each x p q i l (ℕ-discrete i m));
-    from = λ x p q h. both x q h (f .from x p q (λ i l. h i (omega arith)));
+    to = λ x p q. (f .to x (g .to x p q .0) (omega (arith, g .within)) .0, λ i l. each x p q i l (ℕ-discrete i m));
+    from = λ x p q h. both x h (f .from x p q (λ i l. h i (omega arith)));
   }
     where
       each : (x : ℕ) → left ≤ x → x < right → (i : ℕ) → i < m + 1 → Dec (i ≡ m) → InnerAt xs ys sign y x i
       each x p q i l (yes e) = subst (λ (n : ℕ). InnerAt xs ys sign y x n) (sym e) (g .to x p q .1)
       each x p q i l (no e) = f .to x (g .to x p q .0) (omega (arith, g .within)) .1 i (omega arith)
 
-      both : (x : ℕ) → x < w → ((i : ℕ) → i < m + 1 → InnerAt xs ys sign y x i) → (lo ≤ x) × (x < hi) → (left ≤ x) × (x < right)
-      both x l h r = g .from x (r .0) (r .1) (h m (omega arith))
+      both : (x : ℕ) → ((i : ℕ) → i < m + 1 → InnerAt xs ys sign y x i) → (u ≤ x) × (x < v) → (left ≤ x) × (x < right)
+      both x h r = g .from x (r .0) (r .1) (h m (omega arith))
 
   -- ---- the row
   module _ (sign : ℤ) (g : Signed xs ys sign) (y w : ℕ) where
@@ -137,8 +126,8 @@ module _ (xs ys : List ℤ) (same : length ys ≡ length xs) where
     covered : (x : ℕ) → polygonPixel (corners xs ys) x y ≡ true → First xs ys sign (pos y) (length xs) x
     covered x h i l = subst (λ (z : ℤ). InnerAt xs ys z (pos y) x i) (sym (g .is)) (inside-all (pos y) x h i l)
 
-    -- all edges were met
-    pub row-whole : (left right : ℕ) → left < right → Kept (First xs ys sign (pos y) (length xs)) 0 w left right → RowRun xs ys w y left right
+    -- some are left
+    row-whole : (left right : ℕ) → left < right → Kept (First xs ys sign (pos y) (length xs)) 0 w left right → RowRun xs ys w y left right
     row-whole left right l f = run left right (record {
       high = f .within;
       empty = inl l;
@@ -146,11 +135,19 @@ module _ (xs ys : List ℤ) (same : length ys ≡ length xs) where
       back = λ x h c. f .from x (omega arith) h (covered x c);
     })
 
-    -- no column is inside of the first m
-    pub row-empty : (m left right : ℕ) → m ≤ length xs → right ≤ left → Kept (First xs ys sign (pos y) m) 0 w left right → RowRun xs ys w y 0 0
-    row-empty m left right n l f = run 0 0 (record {
+    -- none is
+    row-empty : (left right : ℕ) → right ≤ left → Kept (First xs ys sign (pos y) (length xs)) 0 w left right → RowRun xs ys w y 0 0
+    row-empty left right l f = run 0 0 (record {
       high = omega arith;
       empty = inr (refl, refl);
       into = λ x h p q. absurd (omega arith);
-      back = λ x h c. absurd (omega (arith, f .from x (omega arith) h (λ i k. covered x c i (omega arith))));
+      back = λ x h c. absurd (omega (arith, f .from x (omega arith) h (covered x c)));
     })
+
+    -- all edges were met
+    pub row-closed : (lo hi left right : ℕ) → Kept (First xs ys sign (pos y) (length xs)) 0 w lo hi → Closed lo hi left right → RowRun xs ys w y left right
+    row-closed lo hi left right f c = by (decLe hi lo)
+      where
+        by : Dec (hi ≤ lo) → RowRun xs ys w y left right
+        by (yes l) = rw (c .none l .0, c .none l .1) (row-empty lo hi l f)
+        by (no l) = let k : lo < hi = omega arith in rw (c .some k .0, c .some k .1) (row-whole lo hi k f)

@@ -1,24 +1,26 @@
--- Laws: the rows that fill_runs leaves out have no covered column; the rows that it works out are written in order.
-use mathlib.Core.Path.{_≡_, refl}
+-- Laws: the rows that fill_runs leaves out have no covered column; the rows that it works out are their runs.
+use mathlib.Core.Path.{_≡_, refl, subst}
 use mathlib.Core.Bool.{Bool, true, false, _||_}
 use mathlib.Core.List.{List, [], _∷_}
 use mathlib.Core.Logic.{_⊎_, inl, inr}
-use Prim.Native.Nat.{ℕ, _+_, _*_, _≤_, _<_}
+use Prim.Native.Nat.{ℕ, zero, suc, _+_, _*_, _≤_, _<_}
 use native.Mathlib.Omega.{arith}
 use native.Mathlib.Decide.{decLe}
-use lib.ListN.{length, set}
+use lib.ListN.{length, getD, replicate}
 use lib.IntN.{ℤ, pos, _+ℤ_}
 use lib.Signed.{_≤ℤ_, _<ℤ_, ltZ}
 use Rattle.laws.specs.Parts.{zord, of+}
 use Rattle.laws.specs.Order.{≤ℤ-or-<ℤ, ≤ℤ-antisym}
 use Rattle.laws.specs.Fit.{lt-false}
-use Rattle.laws.specs.Runs.{rowRun, runsOf}
+use Rattle.laws.specs.Runs.{rowRun}
 use Rattle.laws.specs.Blank.{blank}
-use Rattle.laws.specs.RunLaws.{row-ends, row-past, row-none, ends-within, runsBefore, runs-start, runs-more, runs-end, runs-blank}
+use Rattle.laws.specs.RunLaws.{row-ends, row-past, row-none, runs-blank}
 use Rattle.whole.specs.Whole.{ClampI64Says}
 use Rattle.whole.specs.WholeLaws.{clamp-is}
 use Rattle.polygon.specs.Polygon.{at, area2, areaTest, polygonTests, polygon, corners, polygonPixel, leastOf, greatestOf, FillRunsSays}
-use Rattle.polygon.specs.Steps.{RowRun}
+use Rattle.polygon.specs.Steps.{Kept, First, leftAt, rightAt, Room, Rows, Opened, Closed, Signed, RowRun}
+use Rattle.polygon.specs.Around.{row-closed}
+use Rattle.polygon.specs.RowSteps.{rows-then, runs-of-rows}
 use Rattle.polygon.specs.Box.{polygon-in-box}
 
 -- what is not 0 is an area
@@ -29,6 +31,16 @@ some-area area h = by (ltZ (pos 0) area) (ltZ area (pos 0)) refl refl
     by true b e f = refl
     by false true e f = refl
     by false false e f = absurd (h (≤ℤ-antisym (lt-false (pos 0) area e) (lt-false area (pos 0) f)))
+
+-- room in which nothing is written
+zero-at : (n k : ℕ) → _≡_ {A = ℕ} (getD (replicate n 0) k 0) 0
+zero-at zero k = refl
+zero-at (suc n) zero = refl
+zero-at (suc n) (suc k) = zero-at n k
+
+pub blank-room : Room blank
+unfolding blank
+blank-room = record { size = refl; small = λ k. omega (arith, zero-at 512 k) }
 
 -- no area, no pixel
 pub no-area-none : (xs ys : List ℤ) (w h : ℕ) → area2 (corners xs ys) ≡ pos 0 → FillRunsSays xs ys w h blank
@@ -54,32 +66,57 @@ module _ (xs ys : List ℤ) (same : length ys ≡ length xs) (w h : ℕ) where
   row-below y l = row-none covers w h y (λ x k. not-true (covers x y) (λ t. let b = polygon-in-box xs ys (at (pos x) (pos y)) same t .bottom in omega (arith, zord)))
 
   -- the rows before the first corner's, and those past the last one's
-  pub fill-start : (first : ℕ) → h ≤ 256 → ClampI64Says (leastOf ys) h first → (first ≤ h) × (blank ≡ runsBefore covers w h first)
-  fill-start first l e =
-      let n = clamp-is (leastOf ys) h first e in
-      (n .0, runs-start covers w h first (omega (arith, n .0)) (λ z k. row-above z (before z k (≤ℤ-or-<ℤ (leastOf ys) (pos z)))))
+  rows-above : (first z : ℕ) → h ≤ 256 → ClampI64Says (leastOf ys) h first → z < first → rowRun covers w h z ≡ 0 ∷ 0 ∷ []
+  rows-above first z l e k = row-above z (before (≤ℤ-or-<ℤ (leastOf ys) (pos z)))
     where
-      before : (z : ℕ) → z < first → (leastOf ys ≤ℤ pos z) ⊎ (pos z <ℤ leastOf ys) → pos z <ℤ leastOf ys
-      before z k (inr g) = g
-      before z k (inl g) =
+      before : (leastOf ys ≤ℤ pos z) ⊎ (pos z <ℤ leastOf ys) → pos z <ℤ leastOf ys
+      before (inr g) = g
+      before (inl g) =
           let n = clamp-is (leastOf ys) h first e in
           absurd (omega (arith, n .1 z (omega (arith, n .0)) .1 g))
 
-  pub fill-end : (past y : ℕ) → y ≤ 256 → past ≤ y → ClampI64Says (greatestOf ys +ℤ pos 1) h past → runsBefore covers w h y ≡ runsOf covers w h
-  fill-end past y l k e = runs-end covers w h y l (λ z a b. by z a (decLe h z))
+  rows-below : (past z : ℕ) → ClampI64Says (greatestOf ys +ℤ pos 1) h past → past ≤ z → rowRun covers w h z ≡ 0 ∷ 0 ∷ []
+  rows-below past z e k = by (decLe h z)
     where
-      by : (z : ℕ) → y ≤ z → Dec (h ≤ z) → rowRun covers w h z ≡ 0 ∷ 0 ∷ []
-      by z a (yes g) = row-past covers w h z g
-      by z a (no g) =
+      by : Dec (h ≤ z) → rowRun covers w h z ≡ 0 ∷ 0 ∷ []
+      by (yes g) = row-past covers w h z g
+      by (no g) =
           let n = clamp-is (greatestOf ys +ℤ pos 1) h past e in
           let b : (greatestOf ys +ℤ pos 1) ≤ℤ pos z = n .1 z (omega arith) .0 (omega arith) in
           row-below z (omega (arith, zord, of+ (greatestOf ys) (pos 1)))
 
-  pub fill-more : (y left right : ℕ) → h ≤ 256 → y < h → RowRun xs ys w y left right
-      → set (set (runsBefore covers w h y) (y * 2) left) (y * 2 + 1) right ≡ runsBefore covers w h (y + 1)
-  fill-more y left right k l r = runs-more covers w h y left right (omega arith) (row-ends covers w h y left right l (r .first) (r .past))
+  -- a row of zeros
+  zeros : (z : ℕ) → (leftAt blank z ≡ 0) × (rightAt blank z ≡ 0)
+  unfolding blank
+  zeros z = (zero-at 512 (z * 2), zero-at 512 (z * 2 + 1))
 
-  pub run-within : (y left right : ℕ) → RowRun xs ys w y left right → (left ≤ w) × (right ≤ w)
-  run-within y left right r =
-      let n = ends-within (λ x. covers x y) w in
-      (omega (arith, r .first, n .0), omega (arith, r .past, n .1))
+  -- the rows of the box were opened, cut by every edge and closed
+  module _ (sign : ℤ) (g : Signed xs ys sign) (first past : ℕ) (opened cut closed : List ℕ) where
+    abbrev Done : ℕ → ℕ → ℕ → ℕ → ℕ → Type 0
+    Done y a b left right = RowRun xs ys w y left right
+
+    abbrev Cut : ℕ → ℕ → ℕ → ℕ → ℕ → Type 0
+    Cut y a b left right = Kept (First xs ys sign (pos y) (length xs)) 0 w left right
+
+    done : Rows (Opened w) first past blank opened → Rows (λ y. Kept (First xs ys sign (pos y) (length xs))) first past opened cut → Rows (λ y. Closed) first past cut closed
+        → Rows Done first past blank closed
+    done o c f =
+        rows-then Cut (λ y. Closed) Done first past blank cut closed
+        (rows-then (Opened w) (λ y. Kept (First xs ys sign (pos y) (length xs))) Cut first past blank opened cut o c
+        (λ y a b lo hi left right p q. subst (λ (n : ℕ). Kept (First xs ys sign (pos y) (length xs)) 0 n left right) (p .1) (subst (λ (n : ℕ). Kept (First xs ys sign (pos y) (length xs)) n hi left right) (p .0) q)))
+        f (λ y a b lo hi left right p q. row-closed xs ys same sign g y w lo hi left right p q)
+
+    pub fill-all : h ≤ 256 → ClampI64Says (leastOf ys) h first → ClampI64Says (greatestOf ys +ℤ pos 1) h past → Rows (Opened w) first past blank opened
+        → Rows (λ y. Kept (First xs ys sign (pos y) (length xs))) first past opened cut → Rows (λ y. Closed) first past cut closed → FillRunsSays xs ys w h closed
+    fill-all l d e o c f = runs-of-rows covers w h closed (done o c f .room .size) (λ y k. by y k (decLe first y) (decLe past y))
+      where
+        by : (y : ℕ) → y < 256 → Dec (first ≤ y) → Dec (past ≤ y) → rowRun covers w h y ≡ leftAt closed y ∷ rightAt closed y ∷ []
+        by y k (no a) b =
+            let r = done o c f .above y (omega arith) in
+            rw (r .0, r .1, zeros y .0, zeros y .1) (rows-above first y l d (omega arith))
+        by y k (yes a) (yes b) =
+            let r = done o c f .below y a b in
+            rw (r .0, r .1, zeros y .0, zeros y .1) (rows-below past y e b)
+        by y k (yes a) (no b) =
+            let r = done o c f .each y a (omega arith) in
+            row-ends covers w h y _ _ (omega (arith, clamp-is (greatestOf ys +ℤ pos 1) h past e .0)) (r .first) (r .past)

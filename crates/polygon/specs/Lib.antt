@@ -6,6 +6,7 @@ pub mod Steps
 pub mod Sides
 pub mod Box
 pub mod StepLaws
+pub mod RowSteps
 pub mod Around
 pub mod FillLaws
 pub mod PolygonLaws

@@ -40,12 +40,12 @@ edge-inner area p i j h = le-true (pos 0) (signOf area *ℤ side i j p) (sym (ed
 pub inner-edge : (area : ℤ) (p i j : Point) → pos 0 ≤ℤ (signOf area *ℤ side i j p) → edgeTest area p i j ≡ true
 inner-edge area p i j h = edge-sign area p i j ∙ true-le (pos 0) (signOf area *ℤ side i j p) h
 
--- ---- along a row the side is a line, a * x + b
+-- ---- along a row the side is a line, a * x + b, and b is a line down the rows
 pub line : (s : ℤ) (i j p : Point) → s *ℤ side i j p
-    ≡ (s *ℤ (i .py -ℤ j .py)) *ℤ p .px +ℤ s *ℤ ((j .py -ℤ i .py) *ℤ i .px +ℤ (j .px -ℤ i .px) *ℤ (p .py -ℤ i .py))
+    ≡ (s *ℤ (i .py -ℤ j .py)) *ℤ p .px +ℤ (s *ℤ ((j .py -ℤ i .py) *ℤ i .px -ℤ (j .px -ℤ i .px) *ℤ i .py) +ℤ (s *ℤ (j .px -ℤ i .px)) *ℤ p .py)
 line s i j p = ring (s ∷ i .px ∷ i .py ∷ j .px ∷ j .py ∷ p .px ∷ p .py ∷ [])
     (x 0 ⊠ ((x 3 ⊟ x 1) ⊠ (x 6 ⊟ x 2) ⊟ (x 4 ⊟ x 2) ⊠ (x 5 ⊟ x 1)))
-    ((x 0 ⊠ (x 2 ⊟ x 4)) ⊠ x 5 ⊞ x 0 ⊠ ((x 4 ⊟ x 2) ⊠ x 1 ⊞ (x 3 ⊟ x 1) ⊠ (x 6 ⊟ x 2))) tt
+    ((x 0 ⊠ (x 2 ⊟ x 4)) ⊠ x 5 ⊞ (x 0 ⊠ ((x 4 ⊟ x 2) ⊠ x 1 ⊟ (x 3 ⊟ x 1) ⊠ x 2) ⊞ (x 0 ⊠ (x 3 ⊟ x 1)) ⊠ x 6)) tt
 
 -- a line that is not negative at two places is not negative between them
 between : (a b u m w : ℤ) → u ≤ℤ m → m ≤ℤ w → pos 0 ≤ℤ (a *ℤ u +ℤ b) → pos 0 ≤ℤ (a *ℤ w +ℤ b) → pos 0 ≤ℤ (a *ℤ m +ℤ b)
@@ -64,7 +64,7 @@ edge-convex : (area y : ℤ) (i j : Point) → Convex (λ u. edgeTest area (at (
 edge-convex area y i j u m w h l f g =
     let s = signOf area in
     let a = s *ℤ (i .py -ℤ j .py) in
-    let b = s *ℤ ((j .py -ℤ i .py) *ℤ i .px +ℤ (j .px -ℤ i .px) *ℤ (y -ℤ i .py)) in
+    let b = s *ℤ ((j .py -ℤ i .py) *ℤ i .px -ℤ (j .px -ℤ i .px) *ℤ i .py) +ℤ (s *ℤ (j .px -ℤ i .px)) *ℤ y in
     let e : (t : ℕ) → s *ℤ side i j (at (pos t) y) ≡ a *ℤ pos t +ℤ b = λ t. line s i j (at (pos t) y) in
     inner-edge area (at (pos m) y) i j
     (subst (λ (z : ℤ). pos 0 ≤ℤ z) (sym (e m))

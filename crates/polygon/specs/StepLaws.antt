@@ -2,10 +2,9 @@
 use mathlib.Core.Path.{_≡_, refl, sym, _∙_, ap, subst}
 use mathlib.Core.Bool.{Bool, true, false, cond}
 use mathlib.Core.List.{List, [], _∷_}
-use mathlib.Core.Logic.{_⊎_, inl, inr}
-use Prim.Native.Nat.{ℕ, suc, _+_, _≤_, _<_, max}
+use Prim.Native.Nat.{ℕ, suc, _+_, _-_, _*_, _/_, _≤_, _<_, min, max}
 use native.Mathlib.Omega.{arith}
-use native.Mathlib.Decide.{decLe}
+use native.Mathlib.Nat.{div-mul-le-self, lt-div-mul-add}
 use borrow.Author.Tests.{lt-ltb, le-ltb}
 use native.Mathlib.Numerals.{add-one}
 use lib.ListN.{length, getD, drop, length-drop, drop-of-length-le}
@@ -15,17 +14,15 @@ use lib.Signed.{_≤ℤ_, _<ℤ_, leZ, ltZ}
 use mir.Syntax.{w32}
 use mir.Val.{toZ, ofZ}
 use Rattle.laws.specs.Bound.{Bounded}
-use Rattle.laws.specs.Bounds.{arg, ldw, weq, wfloor}
-use Rattle.laws.specs.Fit.{no-both}
-use Rattle.laws.specs.Quotient.{floorZ}
+use Rattle.laws.specs.Bounds.{arg, ldw}
 use Rattle.laws.specs.Parts.{zord, of+, of-}
-use Rattle.laws.specs.Rep.{v, k, _⊕_, _⊖_, _⊗_, rep-le, le-rep, lt-rep}
-use Rattle.laws.specs.Order.{*ℤ-mono, *ℤ-anti, <ℤ→≤ℤ, ≤ℤ-or-<ℤ, ≤ℤ-antisym}
-use Rattle.whole.specs.Whole.{Largest, Least, lesser, greater, ClampI64Says}
-use Rattle.whole.specs.WholeLaws.{clamp-is, floor-largest}
+use Rattle.laws.specs.Rep.{v, k, _⊕_, _⊖_, _⊗_, rep-le, rep-lt, le-rep, lt-rep}
+use Rattle.laws.specs.Order.{*ℤ-mono, *ℤ-anti, *ℤ-cancel<, <ℤ→≤ℤ}
+use Rattle.whole.specs.Whole.{Largest, Least, lesser, greater}
+use Rattle.whole.specs.WholeLaws.{floor-largest}
 use Rattle.polygon.specs.Polygon.{Point, at, side, area2, corners, leastOf, greatestOf, InRange, ExtentOfSays}
 use Rattle.polygon.specs.Sides.{line}
-use Rattle.polygon.specs.Steps.{Placed, signOf, nextOf, Rounded, Kept, Above, Inner}
+use Rattle.polygon.specs.Steps.{Placed, signOf, nextOf, Kept, Above, Inner}
 
 -- ---- the corner after i
 pub next-in : (n i : ℕ) → i + 1 < n → i + 1 ≡ nextOf n i
@@ -59,18 +56,23 @@ sign-bounded area = by (ltZ (pos 0) area)
     by true = record { within = omega arith }
     by false = record { within = omega arith }
 
--- ---- rounding
-pub rounds-up : (n d : ℤ) (up : Bool) (r : ℤ) → up ≡ true → Least (λ q. n ≤ℤ (q *ℤ d)) r → Rounded n d up r
-rounds-up n d up r e f = record { first = λ g. f; last = λ g. no-both e g }
+-- ---- quotients of numbers without a sign
+pub last-is : (n d : ℕ) (c e : ℤ) → pos n ≡ c → pos d ≡ e → 0 < d → Largest (λ q. (q *ℤ e) ≤ℤ c) (pos (n / d))
+last-is n d c e f g h = rw (← f, ← g) (floor-largest (pos n) (pos d) (omega (arith, zord)))
 
-pub rounds-down : (n d : ℤ) (up : Bool) (r : ℤ) → up ≡ false → Largest (λ q. (q *ℤ d) ≤ℤ n) r → Rounded n d up r
-rounds-down n d up r e f = record { first = λ g. no-both g e; last = λ g. f }
+pub first-is : (n d : ℕ) (c e : ℤ) → pos n ≡ c → pos d ≡ e → 0 < d → Least (λ q. c ≤ℤ (q *ℤ e)) (pos ((n + (d - 1)) / d))
+first-is n d c e f g h = rw (← f, ← g) (record { has = reaches; least = lowest })
+  where
+    reaches : pos n ≤ℤ (pos ((n + (d - 1)) / d) *ℤ pos d)
+    reaches = rep-le (k n) (k ((n + (d - 1)) / d) ⊗ k d) (omega (arith, lt-div-mul-add {a = n + (d - 1)} h))
 
--- a quotient is no larger than its dividend
-pub last-bounded : {m : ℕ} (n d r : ℤ) → pos 0 <ℤ d → Largest (λ q. (q *ℤ d) ≤ℤ n) r → Bounded m n → Bounded m r
-last-bounded n d r h f b =
-    let g = floor-largest n d h in
-    weq (≤ℤ-antisym (g .largest r (f .has)) (f .largest (floorZ n d) (g .has))) (wfloor d h b)
+    lowest : (r : ℤ) → pos n ≤ℤ (r *ℤ pos d) → pos ((n + (d - 1)) / d) ≤ℤ r
+    lowest r l =
+        let q = (n + (d - 1)) / d in
+        let s : pos q <ℤ (r +ℤ pos 1) =
+        *ℤ-cancel< (pos d) (omega (arith, zord))
+        (rep-lt (k q ⊗ k d) ((v r ⊕ k 1) ⊗ k d) (omega (arith, div-mul-le-self (n + (d - 1)) d, le-rep (k n) (v r ⊗ k d) l))) in
+        omega (arith, zord, of+ r (pos 1))
 
 -- ---- the columns of a half line
 up : (x : ℕ) → pos 0 ≤ℤ pos x
@@ -92,55 +94,43 @@ module _ (a c : ℤ) (lo hi : ℕ) where
   }
 
   -- a < 0: up to the last column, c / -a rounded down
-  pub half-last : (last : ℤ) (right : ℕ) → a <ℤ pos 0 → Largest (λ q. (q *ℤ (pos 0 -ℤ a)) ≤ℤ c) last → ClampI64Says (last +ℤ pos 1) hi right
-      → Kept (Above a c) lo hi lo right
-  half-last last right h d e =
-      let n = clamp-is (last +ℤ pos 1) hi right e in record {
-        within = n .0;
-        to = λ x p q. (p, inside x (not-past x (omega (arith, n .0)) q (≤ℤ-or-<ℤ (last +ℤ pos 1) (pos x))));
-        from = λ x p q r. (p, before x q (d .largest (pos x) (under x r)) (decLe right x));
-      }
+  pub half-last : (last : ℕ) → a <ℤ pos 0 → Largest (λ q. (q *ℤ (pos 0 -ℤ a)) ≤ℤ c) (pos last) → Kept (Above a c) lo hi lo (min (last + 1) hi)
+  half-last last h d = record {
+    within = omega arith;
+    to = λ x p q. (p, inside x (omega (arith, zord)));
+    from = λ x p q r. (p, omega (arith, zord, d .largest (pos x) (under x r)));
+  }
     where
-      not-past : (x : ℕ) → x < hi → x < right → ((last +ℤ pos 1) ≤ℤ pos x) ⊎ (pos x <ℤ (last +ℤ pos 1)) → pos x ≤ℤ last
-      not-past x l q (inl g) = absurd (omega (arith, clamp-is (last +ℤ pos 1) hi right e .1 x l .1 g))
-      not-past x l q (inr g) = omega (arith, zord, of+ last (pos 1))
-
-      inside : (x : ℕ) → pos x ≤ℤ last → Above a c x
+      inside : (x : ℕ) → pos x ≤ℤ pos last → Above a c x
       inside x l =
           let m : pos 0 ≤ℤ (pos 0 -ℤ a) = omega (arith, zord, of- (pos 0) a) in
-          rep-le (k 0) (v a ⊗ k x ⊕ v c) (omega (arith, le-rep (k x ⊗ (k 0 ⊖ v a)) (v last ⊗ (k 0 ⊖ v a)) (*ℤ-mono (pos 0 -ℤ a) m l), le-rep (v last ⊗ (k 0 ⊖ v a)) (v c) (d .has)))
+          rep-le (k 0) (v a ⊗ k x ⊕ v c) (omega (arith, le-rep (k x ⊗ (k 0 ⊖ v a)) (k last ⊗ (k 0 ⊖ v a)) (*ℤ-mono (pos 0 -ℤ a) m l), le-rep (k last ⊗ (k 0 ⊖ v a)) (v c) (d .has)))
 
       under : (x : ℕ) → Above a c x → (pos x *ℤ (pos 0 -ℤ a)) ≤ℤ c
       under x r = rep-le (k x ⊗ (k 0 ⊖ v a)) (v c) (omega (arith, le-rep (k 0) (v a ⊗ k x ⊕ v c) r))
 
-      before : (x : ℕ) → x < hi → pos x ≤ℤ last → Dec (right ≤ x) → x < right
-      before x l m (no g) = omega arith
-      before x l m (yes g) = let n : (last +ℤ pos 1) ≤ℤ pos x = clamp-is (last +ℤ pos 1) hi right e .1 x l .0 g in absurd (omega (arith, zord, of+ last (pos 1)))
-
   -- a > 0: from the first column on, -c / a rounded up
-  pub half-first : (first : ℤ) (left : ℕ) → pos 0 <ℤ a → Least (λ q. (pos 0 -ℤ c) ≤ℤ (q *ℤ a)) first → ClampI64Says first hi left
-      → Kept (Above a c) lo hi (max lo left) hi
-  half-first first left h d e =
-      let n = clamp-is first hi left e in record {
-        within = omega arith;
-        to = λ x p q. (omega arith, inside x (n .1 x q .0 (omega arith)));
-        from = λ x p q r. (omega (arith, n .1 x q .1 (d .least (pos x) (over x r))), q);
-      }
+  pub half-first : (first : ℕ) → pos 0 <ℤ a → Least (λ q. (pos 0 -ℤ c) ≤ℤ (q *ℤ a)) (pos first) → Kept (Above a c) lo hi (max lo (min first hi)) hi
+  half-first first h d = record {
+    within = omega arith;
+    to = λ x p q. (omega arith, inside x (omega (arith, zord)));
+    from = λ x p q r. (omega (arith, zord, d .least (pos x) (over x r)), q);
+  }
     where
-      inside : (x : ℕ) → first ≤ℤ pos x → Above a c x
-      inside x l = rep-le (k 0) (v a ⊗ k x ⊕ v c) (omega (arith, le-rep (v first ⊗ v a) (k x ⊗ v a) (*ℤ-mono a (<ℤ→≤ℤ h) l), le-rep (k 0 ⊖ v c) (v first ⊗ v a) (d .has)))
+      inside : (x : ℕ) → pos first ≤ℤ pos x → Above a c x
+      inside x l = rep-le (k 0) (v a ⊗ k x ⊕ v c) (omega (arith, le-rep (k first ⊗ v a) (k x ⊗ v a) (*ℤ-mono a (<ℤ→≤ℤ h) l), le-rep (k 0 ⊖ v c) (k first ⊗ v a) (d .has)))
 
       over : (x : ℕ) → Above a c x → (pos 0 -ℤ c) ≤ℤ (pos x *ℤ a)
       over x r = rep-le (k 0 ⊖ v c) (k x ⊗ v a) (omega (arith, le-rep (k 0) (v a ⊗ k x ⊕ v c) r))
 
 -- along a row an edge is a half line
-pub kept-inner : (s : ℤ) (i j : Point) (y : ℤ) (lo hi left right : ℕ)
-    → Kept (Above (s *ℤ (i .py -ℤ j .py)) (s *ℤ ((j .py -ℤ i .py) *ℤ i .px +ℤ (j .px -ℤ i .px) *ℤ (y -ℤ i .py)))) lo hi left right
-    → Kept (Inner s i j y) lo hi left right
+pub kept-inner : (s : ℤ) (i j : Point) (y lo hi left right : ℕ)
+    → Kept (Above (s *ℤ (i .py -ℤ j .py)) (s *ℤ ((j .py -ℤ i .py) *ℤ i .px -ℤ (j .px -ℤ i .px) *ℤ i .py) +ℤ (s *ℤ (j .px -ℤ i .px)) *ℤ pos y)) lo hi left right
+    → Kept (Inner s i j (pos y)) lo hi left right
 kept-inner s i j y lo hi left right f = record {
   within = f .within;
-  to = λ x p q. (f .to x p q .0, subst (λ (z : ℤ). pos 0 ≤ℤ z) (sym (line s i j (at (pos x) y))) (f .to x p q .1));
-  from = λ x p q h. f .from x p q (subst (λ (z : ℤ). pos 0 ≤ℤ z) (line s i j (at (pos x) y)) h);
+  to = λ x p q. (f .to x p q .0, subst (λ (z : ℤ). pos 0 ≤ℤ z) (sym (line s i j (at (pos x) (pos y)))) (f .to x p q .1));
+  from = λ x p q h. f .from x p q (subst (λ (z : ℤ). pos 0 ≤ℤ z) (line s i j (at (pos x) (pos y))) h);
 }
 
 -- ---- a corner as it is read from the two lists

@@ -1,14 +1,14 @@
 -- Rules: what the private functions below fill_runs ask and promise.
 use mathlib.Core.Path.{_≡_}
-use mathlib.Core.Bool.{Bool, true, false, cond}
+use mathlib.Core.Bool.{true, cond}
 use mathlib.Core.List.{List}
-use Prim.Native.Nat.{ℕ, _+_, _≤_, _<_}
+use Prim.Native.Nat.{ℕ, _+_, _*_, _≤_, _<_}
 use lib.Dec.{ltb}
+use lib.ListN.{length, getD}
 use lib.IntN.{ℤ, pos, negsuc, _+ℤ_, _*ℤ_}
 use lib.Signed.{_≤ℤ_, ltZ}
 use Rattle.laws.specs.Bound.{Bounded}
 use Rattle.laws.specs.Ends.{endsOf, leftOf, rightOf}
-use Rattle.whole.specs.Whole.{Largest, Least}
 use Rattle.polygon.specs.Polygon.{Point, at, side, area2, areaTest, corners, polygonPixel}
 
 -- a point within the coordinate range
@@ -24,11 +24,6 @@ signOf area = cond (ltZ (pos 0) area) (pos 1) (negsuc 0)
 abbrev pub nextOf : ℕ → ℕ → ℕ
 nextOf n i = cond (ltb (i + 1) n) (i + 1) 0
 
--- the first r with n <= r * d, or the last with r * d <= n
-pub record Rounded (n d : ℤ) (up : Bool) (r : ℤ) : Type 0 where
-  pub first : up ≡ true → Least (λ q. n ≤ℤ (q *ℤ d)) r
-  pub last : up ≡ false → Largest (λ q. (q *ℤ d) ≤ℤ n) r
-
 -- of the columns lo up to hi, those from left up to right are the ones with the property
 pub record Kept (P : ℕ → Type 0) (lo hi left right : ℕ) : Type 0 where
   pub within : right ≤ hi
@@ -42,6 +37,46 @@ Above a c x = pos 0 ≤ℤ (a *ℤ pos x +ℤ c)
 -- on the inner side of the edge i to j, at a column of the row y
 abbrev pub Inner : ℤ → Point → Point → ℤ → ℕ → Type 0
 Inner sign i j y x = pos 0 ≤ℤ (sign *ℤ side i j (at (pos x) y))
+
+-- a corner of two lists of coordinates, by place
+abbrev pub corner : List ℤ → List ℤ → ℕ → Point
+corner xs ys i = at (getD xs i (pos 0)) (getD ys i (pos 0))
+
+-- on the inner side of the edge from corner i to the next
+abbrev pub InnerAt : List ℤ → List ℤ → ℤ → ℤ → ℕ → ℕ → Type 0
+InnerAt xs ys sign y x i = Inner sign (corner xs ys i) (corner xs ys (nextOf (length xs) i)) y x
+
+-- on the inner side of the first m edges
+abbrev pub First : List ℤ → List ℤ → ℤ → ℤ → ℕ → ℕ → Type 0
+First xs ys sign y m x = (i : ℕ) → i < m → InnerAt xs ys sign y x i
+
+-- the two ends of row y in a list of runs
+abbrev pub leftAt : List ℕ → ℕ → ℕ
+leftAt out y = getD out (y * 2) 0
+
+abbrev pub rightAt : List ℕ → ℕ → ℕ
+rightAt out y = getD out (y * 2 + 1) 0
+
+-- places for 256 rows, of numbers that a u16 holds
+pub record Room (out : List ℕ) : Type 0 where
+  pub size : length out ≡ 512
+  pub small : (k : ℕ) → getD out k 0 < 65536
+
+-- R holds of each row from first up to past, its two ends before and its two ends after; the other rows are as they were
+pub record Rows (R : ℕ → ℕ → ℕ → ℕ → ℕ → Type 0) (first past : ℕ) (before after : List ℕ) : Type 0 where
+  pub room : Room after
+  pub each : (y : ℕ) → first ≤ y → y < past → R y (leftAt before y) (rightAt before y) (leftAt after y) (rightAt after y)
+  pub above : (y : ℕ) → y < first → (leftAt after y ≡ leftAt before y) × (rightAt after y ≡ rightAt before y)
+  pub below : (y : ℕ) → first ≤ y → past ≤ y → (leftAt after y ≡ leftAt before y) × (rightAt after y ≡ rightAt before y)
+
+-- all w columns
+abbrev pub Opened : ℕ → ℕ → ℕ → ℕ → ℕ → ℕ → Type 0
+Opened w y lo hi left right = (left ≡ 0) × (right ≡ w)
+
+-- as it was, and 0, 0 where no column is left
+pub record Closed (lo hi left right : ℕ) : Type 0 where
+  pub some : lo < hi → (left ≡ lo) × (right ≡ hi)
+  pub none : hi ≤ lo → (left ≡ 0) × (right ≡ 0)
 
 -- a shape with an area, and the sign of that
 pub record Signed (xs ys : List ℤ) (sign : ℤ) : Type 0 where

@@ -1,9 +1,9 @@
 // The runs of a polygon's rows: document 01's triangles and quads, once over the number of corners.
-// A row is the intersection of its edges' half planes, as in integral.rs.
+// A row is the intersection of its edges' half planes, as in integral.rs; edge by edge, all rows of the shape for each.
 ghost use mathlib.Core.Path.{_≡_};
-ghost use Prim.Native.Nat.{_<_, _≤_};
-ghost use lib.IntN.{pos, _-ℤ_};
-ghost use lib.Signed.{_<ℤ_};
+ghost use Prim.Native.Nat.{_<_, _≤_, _+_, _*_, max};
+ghost use lib.IntN.{pos, _+ℤ_, _-ℤ_, _*ℤ_};
+ghost use lib.ListN.{length, set};
 ghost use Rattle.laws.specs.Blank.{Blank};
 ghost use Rattle.laws.specs.Bound.{Bounded};
 ghost use Rattle.refusal.specs.Refusals.{Sized};
@@ -20,12 +20,14 @@ ghost use Rattle.polygon.specs.Steps.{
   Placed,
   signOf,
   nextOf,
-  Rounded,
   Kept,
   Above,
   Inner,
-  Signed,
-  RowRun,
+  First,
+  Room,
+  Rows,
+  Opened,
+  Closed,
 };
 
 // The columns from left up to right, without right.
@@ -66,7 +68,7 @@ fn area2(xs: &[i32], ys: &[i32]) -> i64
 }
 
 // What turns an edge's side so that it is not negative on the inner side.
-fn sign_of(area: i64) -> i64
+fn sign_of(area: i64) -> i32
     ensures { λ r. ⌜ r ≡ signOf area ⌝ }
 {
     if area > 0 {
@@ -110,31 +112,22 @@ fn next(i: usize, n: usize) -> usize
     0
 }
 
-// n / d, rounded up for the first column of a run and down for the last: never towards 0.
-fn rounded(n: i64, d: i64, up: bool) -> i64
-    requires { ⌜ pos 0 <ℤ d ⌝ }
-    ensures { λ r. ⌜ Rounded n d up r ⌝ }
-{
-    if up {
-        return whole::div_ceil_i64(n, d);
-    }
-    whole::div_floor_i64(n, d)
-}
-
 // Of the columns lo up to hi, those at which a * x + c is not negative.
-// No division where the answer is all of them or none.
-fn half_line(a: i64, c: i64, lo: usize, hi: usize) -> Run
+// No division where the answer is all of them or none. Elsewhere both numbers are positive: -c / a rounded up is the first column,
+// c / -a rounded down the last.
+fn half_line(a: i32, c: i32, lo: usize, hi: usize) -> Run
     requires slope { ⌜ Bounded 16382 a ⌝ }
     requires offset { ⌜ Bounded 1000000000 c ⌝ }
-    ensures { λ r. ⌜ Kept (Above a c) lo hi (r .left) (r .right) ⌝ }
+    ensures { λ r. ⌜ Kept (Above a c) lo hi (r .left) (r .right) × (r .left ≤ max lo hi) ⌝ }
 {
     if c < 0 {
         if a <= 0 {
             return Run { left: 0, right: 0 };
         }
-        let first = rounded(0 - c, a, true);
+        let d = a as u32;
+        let first = ((0 - c) as u32 + (d - 1)) / d;
         return Run {
-            left: whole::max_usize(lo, whole::clamp_i64(first, hi)),
+            left: whole::max_usize(lo, whole::min_usize(first as usize, hi)),
             right: hi,
         };
     }
@@ -144,46 +137,118 @@ fn half_line(a: i64, c: i64, lo: usize, hi: usize) -> Run
             right: hi,
         };
     }
-    let last = rounded(c, 0 - a, false);
+    let last = c as u32 / (0 - a) as u32;
     Run {
         left: lo,
-        right: whole::clamp_i64(last + 1, hi),
+        right: whole::min_usize(last as usize + 1, hi),
     }
 }
 
-// Of the columns lo up to hi of row y, those on the inner side of the edge from i to j.
-fn edge_run(xi: i32, yi: i32, xj: i32, yj: i32, sign: i64, y: i32, lo: usize, hi: usize) -> Run
+// Writes row y's run, two places a row.
+fn put_row(y: usize, left: usize, right: usize, out: &mut [u16; 512])
+    requires row { ⌜ y < 256 ⌝ }
+    requires ends { ⌜ (left < 65536) × (right < 65536) ⌝ }
+    ensures { λ _. ⌜ now (out .exit) ≡ set (set (now (out .entry)) (y * 2) left) (y * 2 + 1) right ⌝ }
+{
+    let place = y * 2;
+    out[place] = left as u16;
+    out[place + 1] = right as u16;
+}
+
+// All columns, in the rows first up to past.
+fn open_rows(w: usize, first: usize, past: usize, out: &mut [u16; 512])
+    requires columns { ⌜ w ≤ 256 ⌝ }
+    requires rows { ⌜ past ≤ 256 ⌝ }
+    requires places { ⌜ Room (now out) ⌝ }
+    ensures { λ _. ⌜ Rows (Opened w) first past (now (out .entry)) (now (out .exit)) ⌝ }
+{
+    for y in first..past {
+        put_row(y, 0, w, out);
+    }
+}
+
+// Of the columns that each row has left, those at which a * x + base + step * y is not negative.
+fn cut_rows(a: i32, base: i32, step: i32, first: usize, past: usize, out: &mut [u16; 512])
+    requires slope { ⌜ Bounded 16382 a ⌝ }
+    requires base { ⌜ Bounded 500000000 base ⌝ }
+    requires step { ⌜ Bounded 16382 step ⌝ }
+    requires rows { ⌜ past ≤ 256 ⌝ }
+    requires places { ⌜ Room (now out) ⌝ }
+    ensures { λ _. ⌜ Rows (λ y. Kept (Above a (base +ℤ step *ℤ pos y))) first past (now (out .entry)) (now (out .exit)) ⌝ }
+{
+    for y in first..past {
+        let place = y * 2;
+        let run = half_line(
+            a,
+            base + step * (y as i32),
+            out[place] as usize,
+            out[place + 1] as usize,
+        );
+        put_row(y, run.left, run.right, out);
+    }
+}
+
+// The same for the edge from i to j: what is left is on its inner side.
+fn cut_edge(
+    xi: i32,
+    yi: i32,
+    xj: i32,
+    yj: i32,
+    sign: i32,
+    first: usize,
+    past: usize,
+    out: &mut [u16; 512],
+)
     requires from { ⌜ Placed (at xi yi) ⌝ }
     requires to { ⌜ Placed (at xj yj) ⌝ }
     requires sign { ⌜ Bounded 1 sign ⌝ }
-    requires row { ⌜ Bounded 8191 y ⌝ }
-    ensures { λ r. ⌜ Kept (Inner sign (at xi yi) (at xj yj) y) lo hi (r .left) (r .right) ⌝ }
+    requires rows { ⌜ past ≤ 256 ⌝ }
+    requires places { ⌜ Room (now out) ⌝ }
+    ensures { λ _. ⌜ Rows (λ y. Kept (Inner sign (at xi yi) (at xj yj) (pos y))) first past (now (out .entry)) (now (out .exit)) ⌝ }
 {
-    let c = diff(yj, yi) * (xi as i64) + diff(xj, xi) * diff(y, yi);
-    half_line(sign * diff(yi, yj), sign * c, lo, hi)
+    let base = (yj - yi) * xi - (xj - xi) * yi;
+    cut_rows(
+        sign * (yi - yj),
+        sign * base,
+        sign * (xj - xi),
+        first,
+        past,
+        out,
+    );
 }
 
-// The run of row y: what is left once each edge took off the columns on its outer side.
-fn row_run(xs: &[i32], ys: &[i32], sign: i64, w: usize, y: usize) -> Run
+// The same for every edge. Edge by edge, so that what is an edge's own is worked out once and not in each row.
+fn cut_edges(xs: &[i32], ys: &[i32], sign: i32, first: usize, past: usize, out: &mut [u16; 512])
     requires corners { ⌜ InRange (now xs) (now ys) ⌝ }
-    requires sign { ⌜ Signed (now xs) (now ys) sign ⌝ }
-    requires row { ⌜ y < 256 ⌝ }
-    requires columns { ⌜ 1 ≤ w ⌝ }
-    ensures { λ r. ⌜ RowRun (now (xs .entry)) (now (ys .entry)) w y (r .left) (r .right) ⌝ }
+    requires sign { ⌜ Bounded 1 sign ⌝ }
+    requires rows { ⌜ past ≤ 256 ⌝ }
+    requires places { ⌜ Room (now out) ⌝ }
+    ensures { λ _. ⌜ Rows (λ y. Kept (First (now (xs .entry)) (now (ys .entry)) sign (pos y) (length (now (xs .entry))))) first past (now (out .entry)) (now (out .exit)) ⌝ }
 {
-    let row = y as i32;
-    let mut left: usize = 0;
-    let mut right = w;
-    let mut i: usize = 0;
-    while i < xs.len() {
+    for i in 0..xs.len() {
         let j = next(i, xs.len());
-        let run = edge_run(xs[i], ys[i], xs[j], ys[j], sign, row, left, right);
-        left = run.left;
-        right = run.right;
-        if right <= left {
-            return Run { left: 0, right: 0 };
-        }
-        i += 1;
+        cut_edge(xs[i], ys[i], xs[j], ys[j], sign, first, past, out);
+    }
+}
+
+// A row of which no column is left is 0, 0.
+fn close_rows(first: usize, past: usize, out: &mut [u16; 512])
+    requires rows { ⌜ past ≤ 256 ⌝ }
+    requires places { ⌜ Room (now out) ⌝ }
+    ensures { λ _. ⌜ Rows (λ y. Closed) first past (now (out .entry)) (now (out .exit)) ⌝ }
+{
+    for y in first..past {
+        let place = y * 2;
+        let run = closed(out[place] as usize, out[place + 1] as usize);
+        put_row(y, run.left, run.right, out);
+    }
+}
+
+fn closed(left: usize, right: usize) -> Run
+    ensures { λ r. ⌜ Closed left right (r .left) (r .right) ⌝ }
+{
+    if right <= left {
+        return Run { left: 0, right: 0 };
     }
     Run {
         left: left,
@@ -202,14 +267,10 @@ pub fn fill_runs(xs: &[i32], ys: &[i32], w: usize, h: usize, out: &mut [u16; 512
     if area == 0 {
         return;
     }
-    let sign = sign_of(area);
     let rows = extent_of(ys);
     let first = whole::clamp_i64(rows.least as i64, h);
     let past = whole::clamp_i64(rows.greatest as i64 + 1, h);
-    for y in first..past {
-        let run = row_run(xs, ys, sign, w, y);
-        let place = y * 2;
-        out[place] = run.left as u16;
-        out[place + 1] = run.right as u16;
-    }
+    open_rows(w, first, past, out);
+    cut_edges(xs, ys, sign_of(area), first, past, out);
+    close_rows(first, past, out);
 }
