@@ -9,7 +9,7 @@ use lib.Signed.{leZ, _≤ℤ_, _<ℤ_}
 use Rattle.laws.specs.Parts.{zord, of-, one-zero}
 use Rattle.laws.specs.Order.{≤ℤ-or-<ℤ, ≤ℤ-trans}
 use Rattle.laws.specs.Bools.{true-or-false, is-true}
-use Rattle.laws.specs.Fit.{le-true, le-false, of-abs}
+use Rattle.laws.specs.Fit.{le-true, lt-true, le-false, of-abs}
 use Rattle.laws.specs.Ends.{none, endsOf}
 use Rattle.laws.specs.EndsLaws.{ended, ended-unique}
 use Rattle.whole.specs.Whole.{lesser, greater}
@@ -17,11 +17,11 @@ use Rattle.whole.specs.WholeLaws.{greater-high, greater-low, lesser-low, lesser
 use Rattle.cover.specs.declared.Kind.{Kind}
 use Rattle.cover.specs.declared.reached.Rows.{Rows}
 use Rattle.cover.specs.Cover.{covered, reach, lowestRow, highestRow}
-use Rattle.cover.specs.ReachRows.{reachRows, ReachRowsSays}
-use Rattle.cover.specs.CoverLaws.{in-reach}
+use Rattle.cover.specs.ReachRows.{rowsOf, turned, beside, noRows, reachRows, ReachRowsSays}
+use Rattle.cover.specs.CoverLaws.{in-reach, in-columns}
 
-pub ReachRowsSays-unique : (kind : Kind) (h : ℕ) (r s : Rows) → ReachRowsSays kind h r → ReachRowsSays kind h s → r ≡ s
-ReachRowsSays-unique kind h r s p q = p ∙ sym q
+pub ReachRowsSays-unique : (kind : Kind) (w h : ℕ) (r s : Rows) → ReachRowsSays kind w h r → ReachRowsSays kind w h s → r ≡ s
+ReachRowsSays-unique kind w h r s p q = p ∙ sym q
 
 -- the reach begins at row 0 or below it, and ends in the picture or above it
 pub first-nonneg : (kind : Kind) (h : ℕ) → pos 0 ≤ℤ reach kind h .first
@@ -55,14 +55,14 @@ uncovered kind h y l out x =
 module _ (kind : Kind) (h : ℕ) where
   -- what the two ends are, by whether the reach is empty
   pub rows-some : reach kind h .first ≤ℤ reach kind h .last
-      → (reachRows kind h .top ≡ natAbs (reach kind h .first)) × (reachRows kind h .bottom ≡ natAbs (reach kind h .last) + 1)
-  unfolding reachRows
+      → (rowsOf kind h .top ≡ natAbs (reach kind h .first)) × (rowsOf kind h .bottom ≡ natAbs (reach kind h .last) + 1)
+  unfolding rowsOf
   rows-some g =
       (refl, ap (λ (b : Bool). cond b (natAbs (reach kind h .last) + 1) (natAbs (reach kind h .first))) (is-true (leZ (reach kind h .first) (reach kind h .last)) (g .le)))
 
   pub rows-none : reach kind h .last <ℤ reach kind h .first
-      → (reachRows kind h .top ≡ natAbs (reach kind h .first)) × (reachRows kind h .bottom ≡ natAbs (reach kind h .first))
-  unfolding reachRows
+      → (rowsOf kind h .top ≡ natAbs (reach kind h .first)) × (rowsOf kind h .bottom ≡ natAbs (reach kind h .first))
+  unfolding rowsOf
   rows-none g = (
     refl,
     ap (λ (b : Bool). cond b (natAbs (reach kind h .last) + 1) (natAbs (reach kind h .first)))
@@ -70,41 +70,74 @@ module _ (kind : Kind) (h : ℕ) where
         (true-or-false (leZ (reach kind h .first) (reach kind h .last)))),
   )
 
+module _ (kind : Kind) (w h : ℕ) where
   -- rows outside have no covered pixel; the others lie in the picture
-  pub record Through : Type 0 where
-    pub ordered : reachRows kind h .top ≤ reachRows kind h .bottom
-    pub inside : (y : ℕ) → y < reachRows kind h .bottom → reachRows kind h .top ≤ y → y < h
-    pub outside : (w y : ℕ) → y < h → (y < reachRows kind h .top) ⊎ (reachRows kind h .bottom ≤ y) → endsOf (λ x. covered kind x y) w ≡ none
+  pub record Through (rows : Rows) : Type 0 where
+    pub ordered : rows .top ≤ rows .bottom
+    pub inside : (y : ℕ) → y < rows .bottom → rows .top ≤ y → y < h
+    pub outside : (y : ℕ) → y < h → (y < rows .top) ⊎ (rows .bottom ≤ y) → endsOf (λ x. covered kind x y) w ≡ none
 
-  bare : (w y : ℕ) → y < h → (pos y <ℤ reach kind h .first) ⊎ (reach kind h .last <ℤ pos y) → endsOf (λ x. covered kind x y) w ≡ none
-  bare w y g o = ended-unique (λ x. covered kind x y) w (endsOf (λ x. covered kind x y) w) none (ended (λ x. covered kind x y) w) (λ x k. uncovered kind h y g o x)
+  -- a row without a covered pixel among its w
+  bare : (y : ℕ) → ((x : ℕ) → x < w → covered kind x y ≡ false) → endsOf (λ x. covered kind x y) w ≡ none
+  bare y o = ended-unique (λ x. covered kind x y) w (endsOf (λ x. covered kind x y) w) none (ended (λ x. covered kind x y) w) o
 
-  pub through : Through
-  through =
+  through-rows : Through (rowsOf kind h)
+  through-rows =
       ⊎-elim
       (λ (g : reach kind h .first ≤ℤ reach kind h .last).
-      let e = rows-some g in
+      let e = rows-some kind h g in
       let n = first-nonneg kind h in
       let i = last-inside kind h in
       record {
         ordered = omega (arith, zord, e .0, e .1, of-abs (reach kind h .first), of-abs (reach kind h .last), one-zero (reach kind h .first), one-zero (reach kind h .last));
         inside = λ y a b. omega (arith, zord, e .0, e .1, of-abs (reach kind h .first), of-abs (reach kind h .last), one-zero (reach kind h .first), one-zero (reach kind h .last));
-        outside = λ w y a o. bare w y a (⊎-elim
-            (λ (b : y < reachRows kind h .top). inl (omega (arith, zord, e .0, of-abs (reach kind h .first), one-zero (reach kind h .first))))
-            (λ (b : reachRows kind h .bottom ≤ y). inr (omega (arith, zord, e .1, of-abs (reach kind h .last), one-zero (reach kind h .last)))) o);
+        outside = λ y a o. bare y (λ x k. uncovered kind h y a (⊎-elim
+            (λ (b : y < rowsOf kind h .top). inl (omega (arith, zord, e .0, of-abs (reach kind h .first), one-zero (reach kind h .first))))
+            (λ (b : rowsOf kind h .bottom ≤ y). inr (omega (arith, zord, e .1, of-abs (reach kind h .last), one-zero (reach kind h .last)))) o) x);
       })
       (λ (g : reach kind h .last <ℤ reach kind h .first).
-      let e = rows-none g in
+      let e = rows-none kind h g in
       record {
         ordered = omega (arith, e .0, e .1);
         inside = λ y a b. absurd (omega (arith, e .0, e .1));
-        outside = λ w y a o. bare w y a (⊎-elim
+        outside = λ y a o. bare y (λ x k. uncovered kind h y a (⊎-elim
             (λ (b : pos y <ℤ reach kind h .first). inl b)
             (λ (b : reach kind h .first ≤ℤ pos y). inr (omega (arith, zord)))
-            (flip (≤ℤ-or-<ℤ (reach kind h .first) (pos y))));
+            (flip (≤ℤ-or-<ℤ (reach kind h .first) (pos y)))) x);
       })
       (≤ℤ-or-<ℤ (reach kind h .first) (reach kind h .last))
     where
       flip : {A B : Type 0} → A ⊎ B → B ⊎ A
       flip (inl a) = inr a
       flip (inr b) = inl b
+
+  -- beside the picture no pixel is covered
+  off : beside kind w ≡ true → (x y : ℕ) → x < w → covered kind x y ≡ false
+  unfolding beside
+  off t x y k =
+      ⊎-elim
+      (λ (e : covered kind x y ≡ true).
+      let b = in-columns kind x y w k e in
+      absurd (omega (arith, zord, b .0, b .1, lt-true (reach (turned kind) w .last) (reach (turned kind) w .first) t)))
+      (λ (n : covered kind x y ≡ false). n)
+      (true-or-false (covered kind x y))
+
+  pub rows-beside : beside kind w ≡ true → noRows ≡ reachRows kind w h
+  unfolding reachRows
+  rows-beside t = sym (ap (λ (b : Bool). cond b noRows (rowsOf kind h)) t)
+
+  pub rows-before : beside kind w ≡ false → rowsOf kind h ≡ reachRows kind w h
+  unfolding reachRows
+  rows-before n = sym (ap (λ (b : Bool). cond b noRows (rowsOf kind h)) n)
+
+  pub through : Through (reachRows kind w h)
+  through =
+      ⊎-elim
+      (λ (t : beside kind w ≡ true).
+      subst Through (rows-beside t) (record {
+        ordered = omega arith;
+        inside = λ y a b. absurd (omega arith);
+        outside = λ y a o. bare y (λ x k. off t x y k);
+      }))
+      (λ (n : beside kind w ≡ false). subst Through (rows-before n) through-rows)
+      (true-or-false (beside kind w))

@@ -136,23 +136,23 @@ module _ (kind : Kind) (w h : ℕ) (room : h ≤ 256) where
   runs = runsOf (covered kind) w h
 
   abbrev top : ℕ
-  top = reachRows kind h .top
+  top = reachRows kind w h .top
 
   abbrev bottom : ℕ
-  bottom = reachRows kind h .bottom
+  bottom = reachRows kind w h .bottom
 
   within-picture : top < bottom → bottom ≤ h
-  within-picture l = let n : bottom - 1 < h = through kind h .inside (bottom - 1) (omega arith) (omega arith) in omega arith
+  within-picture l = let n : bottom - 1 < h = through kind w h .inside (bottom - 1) (omega arith) (omega arith) in omega arith
 
   pub reach-sums : (table : List Float) → runsAdded w table runs top (bottom - top) ≡ spanSums kind w h table
   unfolding runsAdded spanSums
   reach-sums table =
       rows-same (λ y. runAdded w table y (runLeft runs y) (runRight runs y)) add top (bottom - top) noSums
-      (λ y a b t. let l : y < h = through kind h .inside y (omega (arith, through kind h .ordered)) a in
+      (λ y a b t. let l : y < h = through kind w h .inside y (omega (arith, through kind w h .ordered)) a in
       ap₂ (λ (m n : ℕ). runAdded w table y m n t) (left-ends kind w h room y l) (right-ends kind w h room y l)
       ∙ added-ends w table y w (λ x. covered kind x y) (endsOf (λ x. covered kind x y) w) (ended (λ x. covered kind x y) w) t)
-      ∙ rows-window add top bottom h noSums (through kind h .ordered) within-picture
-      (λ y l o t. ap (λ (e : Ends). addSpan noSums plus minus (placeOf w table y) e t) (through kind h .outside w y l o))
+      ∙ rows-window add top bottom h noSums (through kind w h .ordered) within-picture
+      (λ y l o t. ap (λ (e : Ends). addSpan noSums plus minus (placeOf w table y) e t) (through kind w h .outside y l o))
       ∙ sym (span-rows noSums plus minus (placeOf w table) (covered kind) w h)
     where
       add : ℕ → ShapeSums → ShapeSums
@@ -162,11 +162,11 @@ module _ (kind : Kind) (w h : ℕ) (room : h ≤ 256) where
   unfolding pointsAdded pixelsAdded pointSums
   reach-points target canvas =
       rows-same (λ y. pixelsAdded w target canvas y (runLeft runs y) (runRight runs y - runLeft runs y)) row top (bottom - top) noSums
-      (λ y a b t. let l : y < h = through kind h .inside y (omega (arith, through kind h .ordered)) a in pixels y l t)
-      ∙ rows-window row top bottom h noSums (through kind h .ordered) within-picture
+      (λ y a b t. let l : y < h = through kind w h .inside y (omega (arith, through kind w h .ordered)) a in pixels y l t)
+      ∙ rows-window row top bottom h noSums (through kind w h .ordered) within-picture
       (λ y l o t. sym (pixels y l t)
       ∙ ap₂ (λ (m n : ℕ). rowsFrom (λ x u. plus u (pixelAt w target canvas y x)) m (n - m) t)
-      (left-ends kind w h room y l ∙ ap leftOf (through kind h .outside w y l o)) (right-ends kind w h room y l ∙ ap rightOf (through kind h .outside w y l o))
+      (left-ends kind w h room y l ∙ ap leftOf (through kind w h .outside y l o)) (right-ends kind w h room y l ∙ ap rightOf (through kind w h .outside y l o))
       ∙ rows-none (λ x u. plus u (pixelAt w target canvas y x)) 0 t)
       ∙ sym (point-rows noSums plus minus (pixelAt w target canvas) (covered kind) w h)
     where
@@ -180,4 +180,4 @@ module _ (kind : Kind) (w h : ℕ) (room : h ≤ 256) where
 
   -- what the loops ask of the runs
   pub runs-fit : RunsFit runs w top bottom
-  runs-fit y a b = run-bounds kind w h room y (through kind h .inside y b a)
+  runs-fit y a b = run-bounds kind w h room y (through kind w h .inside y b a)

@@ -86,7 +86,7 @@ pub(crate) fn point_sums(
     requires lent { ⌜ (length (now target) ≡ h * w * 3) × (length (now canvas) ≡ h * w * 3) ⌝ }
     ensures { λ r. ⌜ r ≡ pointSums kind w h (now (target .entry)) (now (canvas .entry)) ⌝ }
 {
-    let rows = cover::reached::reach_rows(kind, h);
+    let rows = cover::reached::reach_rows(kind, w, h);
     let top = rows.top;
     let bottom = rows.bottom;
     if bottom <= top {

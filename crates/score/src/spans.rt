@@ -45,7 +45,7 @@ pub(crate) fn span_sums(kind: Kind, w: usize, h: usize, table: &[f64]) -> ShapeS
     requires lent { ⌜ length (now table) ≡ h * (w + 1) * 15 ⌝ }
     ensures { λ r. ⌜ r ≡ spanSums kind w h (now (table .entry)) ⌝ }
 {
-    let rows = cover::reached::reach_rows(kind, h);
+    let rows = cover::reached::reach_rows(kind, w, h);
     let top = rows.top;
     let bottom = rows.bottom;
     if bottom <= top {

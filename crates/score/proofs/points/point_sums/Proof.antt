@@ -22,10 +22,10 @@ new-requires : tie.Need-new-requires
 new-requires c κs = search needs
 
 module _ (c : tie.After-reach-rows) where
-  top-is : c .reach-rows .result .top ≡ reachRows (c .before .before .before .args .kind) (c .before .before .before .args .h) .top
+  top-is : c .reach-rows .result .top ≡ reachRows (c .before .before .before .args .kind) (c .before .before .before .args .w) (c .before .before .before .args .h) .top
   top-is = ap (λ (r : Rows). r .top) (c .reach-rows .ensures)
 
-  bottom-is : c .reach-rows .result .bottom ≡ reachRows (c .before .before .before .args .kind) (c .before .before .before .args .h) .bottom
+  bottom-is : c .reach-rows .result .bottom ≡ reachRows (c .before .before .before .args .kind) (c .before .before .before .args .w) (c .before .before .before .args .h) .bottom
   bottom-is = ap (λ (r : Rows). r .bottom) (c .reach-rows .ensures)
 
 returns : tie.Need-returns
@@ -33,8 +33,8 @@ returns c =
     let r = c .before .before in
     let s = r .before .before .before in
     let a = s .args in
-    let top = reachRows (a .kind) (a .h) .top in
-    let z : reachRows (a .kind) (a .h) .bottom - top ≡ 0 = omega (arith, c .before .if1 .taken, top-is r, bottom-is r) in
+    let top = reachRows (a .kind) (a .w) (a .h) .top in
+    let z : reachRows (a .kind) (a .w) (a .h) .bottom - top ≡ 0 = omega (arith, c .before .if1 .taken, top-is r, bottom-is r) in
     let runs = runsOf (covered (a .kind)) (a .w) (a .h) in
     c .new .ensures
     ∙ sym (points-none (a .w) (a .target .now) (a .canvas .now) runs top)
@@ -52,9 +52,9 @@ push-rows-requires c κs =
     let s = r .before .before .before in
     let a = s .args in
     let room = s .pre .0 .h-high in
-    let t = through (a .kind) (a .h) in
-    let top = reachRows (a .kind) (a .h) .top in
-    let bottom = reachRows (a .kind) (a .h) .bottom in
+    let t = through (a .kind) (a .w) (a .h) in
+    let top = reachRows (a .kind) (a .w) (a .h) .top in
+    let bottom = reachRows (a .kind) (a .w) (a .h) .bottom in
     let some : top < bottom = omega (arith, e .if1 .left, top-is r, bottom-is r) in
     let last : bottom - 1 < a .h = t .inside (bottom - 1) (omega arith) (omega arith) in
     let high : bottom ≤ a .h = omega arith in
