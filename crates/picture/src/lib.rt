@@ -22,6 +22,8 @@ use brush::Brush;
 use cover::Kind;
 use cover::reached::Rows;
 
+pub mod rows;
+
 pub struct Colour {
     pub red: f32,
     pub green: f32,
