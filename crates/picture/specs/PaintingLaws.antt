@@ -58,10 +58,10 @@ module _ (b : Brush) (runs : List ℕ) (lo w h : ℕ) (old : List Float) where
 -- ---- by runs and by the rule
 module _ (kind : Kind) (w h : ℕ) (s : Sized w h) where
   abbrev top : ℕ
-  top = reachRows kind h .top
+  top = reachRows kind w h .top
 
   abbrev bottom : ℕ
-  bottom = reachRows kind h .bottom
+  bottom = reachRows kind w h .bottom
 
   abbrev runs : List ℕ
   runs = runsOf (covered kind) w h
@@ -69,8 +69,8 @@ module _ (kind : Kind) (w h : ℕ) (s : Sized w h) where
   pub runs-within : RunsWithin w h (runsOf (covered kind) w h)
   runs-within y l = run-bounds kind w h (s .h-high) y l
 
-  pub rows-within : RowsWithin h (reachRows kind h)
-  rows-within = let t = through kind h in record { ordered = t .ordered; inside = t .inside }
+  pub rows-within : RowsWithin h (reachRows kind w h)
+  rows-within = let t = through kind w h in record { ordered = t .ordered; inside = t .inside }
 
   -- a pixel lies in the runs of the rows that the shape reaches exactly if it is covered
   pub in-runs : (x y : ℕ) → x < w → y < h
@@ -79,7 +79,7 @@ module _ (kind : Kind) (w h : ℕ) (s : Sized w h) where
     where
       -- rows beyond the reach have no covered pixel
       beyond : {X : Type 0} → covered kind x y ≡ true → (y < top) ⊎ (bottom ≤ y) → X
-      beyond t p = no-both t (subst (Ended (λ x. covered kind x y) w) (through kind h .outside w y l p) (ended (λ x. covered kind x y) w) x k)
+      beyond t p = no-both t (subst (Ended (λ x. covered kind x y) w) (through kind w h .outside y l p) (ended (λ x. covered kind x y) w) x k)
 
       yes : covered kind x y ≡ true → inRuns runs top bottom x y ≡ true
       yes t =
@@ -110,7 +110,7 @@ mixed-blended opacity red green blue (suc (suc ch)) old = refl
 module _ (kind : Kind) (opacity red green blue : Float) (w h : ℕ) (old : List Float) where
   -- what the code leaves is the rule
   pub painted-by-runs : (s : Sized w h)
-      → brushedRows (brushOf opacity red green blue) (runsOf (covered kind) w h) (reachRows kind h .top) (reachRows kind h .bottom) w h old ≡ painted kind opacity red green blue w h old
+      → brushedRows (brushOf opacity red green blue) (runsOf (covered kind) w h) (reachRows kind w h .top) (reachRows kind w h .bottom) w h old ≡ painted kind opacity red green blue w h old
   unfolding painted
   painted-by-runs s =
       list-same w h _ _ nan
@@ -118,13 +118,22 @@ module _ (kind : Kind) (opacity red green blue : Float) (w h : ℕ) (old : List 
       ap (λ (t : Bool). cond t (mixed (brushOf opacity red green blue) ch (pictureOf nan w old ch y x)) (pictureOf nan w old ch y x)) (in-runs kind w h s x y m l)
       ∙ ap (λ (v : Float). cond (covered kind x y) v (pictureOf nan w old ch y x)) (mixed-blended opacity red green blue ch (pictureOf nan w old ch y x)))
 
-  pub painted-is : (s : Sized w h) (b : Brush) (runs : List ℕ) (rows : Rows) (new : List Float) → b ≡ brushOf opacity red green blue → runs ≡ runsOf (covered kind) w h → rows ≡ reachRows kind h
+  pub painted-is : (s : Sized w h) (b : Brush) (runs : List ℕ) (rows : Rows) (new : List Float) → b ≡ brushOf opacity red green blue → runs ≡ runsOf (covered kind) w h → rows ≡ reachRows kind w h
       → new ≡ brushedRows b runs (rows .top) (rows .bottom) w h old → new ≡ painted kind opacity red green blue w h old
   painted-is s b runs rows new p q r e =
       e
       ∙ ap (λ (t : Brush). brushedRows t runs (rows .top) (rows .bottom) w h old) p
       ∙ ap (λ (t : List ℕ). brushedRows (brushOf opacity red green blue) t (rows .top) (rows .bottom) w h old) q
       ∙ ap (λ (t : Rows). brushedRows (brushOf opacity red green blue) (runsOf (covered kind) w h) (t .top) (t .bottom) w h old) r
+      ∙ painted-by-runs s
+
+  -- no rows, no paint
+  pub painted-none : (s : Sized w h) (rows : Rows) → length old ≡ h * w * 3 → rows ≡ reachRows kind w h → rows .bottom ≤ rows .top → old ≡ painted kind opacity red green blue w h old
+  painted-none s rows size e l =
+      let o = through kind w h .ordered in
+      rows-none (brushOf opacity red green blue) (runsOf (covered kind) w h) (reachRows kind w h .top) w h old size
+      ∙ ap (λ (y : ℕ). brushedRows (brushOf opacity red green blue) (runsOf (covered kind) w h) (reachRows kind w h .top) y w h old)
+      (omega (arith, o, ap (λ (r : Rows). r .top) e, ap (λ (r : Rows). r .bottom) e))
       ∙ painted-by-runs s
 
   pub length-painted : length (painted kind opacity red green blue w h old) ≡ h * w * 3

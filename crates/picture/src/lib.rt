@@ -253,9 +253,12 @@ pub fn blend(
     requires picture { ⌜ length (now canvas) ≡ h * w * 3 ⌝ }
     ensures { λ _. ⌜ BlendSays kind opacity red green blue w h (now (canvas .entry)) (now (canvas .exit)) ⌝ }
 {
+    let rows = cover::reached::reach_rows(kind, w, h);
+    if rows.bottom <= rows.top {
+        return;
+    }
     let mut runs = [0u16; 512];
     cover::runs(kind, w, h, &mut runs);
-    let rows = cover::reached::reach_rows(kind, h);
     let brush = brush::brush_of(opacity, red, green, blue);
     blend_rows(brush, &runs, rows, w, h, canvas);
 }
