@@ -22,6 +22,7 @@ use Rattle.shapes.specs.declared.Shapes.{Shapes}
 use Rattle.shapes.specs.Lists.{listed, ExchangeSays}
 use Rattle.shapes.specs.Ranges.{fits}
 use Rattle.refine.specs.declared.Course.{Course}
+use Rattle.refine.specs.declared.Sums.{Sums}
 use Rattle.refine.specs.Refinement.{Scene, Progress, paintedOn, drawn, lower, noCandidate, notLower, accepted, after, next, nexts, begun, pass, passes, nothingYet, refined}
 use Rattle.refine.specs.Courses.{progressOf, risen, taken, restarted, Kept, Held, Stepped}
 use Rattle.refine.specs.RefinementLaws.{nexts-more, Zipped, zipped, zip-place, passes-last, passes-more, refined-short, refined-long, drawn-exchanged, next-none, next-kept, next-taken}
@@ -36,14 +37,14 @@ every-without p j l x h k =
 pub listed-length : (list : Shapes) → list .count ≤ 64 → length (list .items) ≡ 64 → length (listed list) ≡ list .count
 listed-length list few long = length-take-le (list .count) (list .items) (omega arith)
 
-module _ (g : Scene Shape (List Float)) (size : ℕ) where
-  kept-length : (c : Course) (first second : List Float) → Kept g size c first second → length (listed (c .list)) ≡ c .list .count
+module _ (g : Scene Shape (List Float)) (size : ℕ) (q : List Float → Sums → Type 0) where
+  kept-length : (c : Course) (first second : List Float) → Kept g size q c first second → length (listed (c .list)) ≡ c .list .count
   kept-length c first second k = listed-length (c .list) (k .few) (k .long)
 
   -- ---- one trial
-  module _ (c : Course) (first second : List Float) (d : Held g size c first second) where
+  module _ (c : Course) (first second : List Float) (d : Held g size q c first second) where
     -- without a candidate
-    pub stepped-none : g .candidate (c .trials) ≡ none → Stepped g size c (risen c (c .made)) first second
+    pub stepped-none : g .candidate (c .trials) ≡ none → Stepped g size q c (risen c (c .made)) first second
     unfolding after
     stepped-none e = record {
       held = record {
@@ -52,6 +53,7 @@ module _ (g : Scene Shape (List Float)) (size : ℕ) where
           long = d .kept .long;
           fitting = d .kept .fitting;
           total = d .kept .total;
+          sums = d .kept .sums;
           first-long = d .kept .first-long;
           second-long = d .kept .second-long;
         };
@@ -67,7 +69,7 @@ module _ (g : Scene Shape (List Float)) (size : ℕ) where
         (e : new ≡ g .total (g .paint x (drawn g (without (c .place) (listed (c .list)))))) (f : first′ ≡ drawn g (take (c .place) (listed (c .list))))
         (first-size : length first′ ≡ size) (second-size : length second′ ≡ size) (inside : T (allWithin first′)) where
       -- a candidate that is not lower by enough
-      pub stepped-kept : lower new (c .old) ≡ false → Stepped g size c (risen c (c .place)) first′ second′
+      pub stepped-kept : lower new (c .old) ≡ false → Stepped g size q c (risen c (c .place)) first′ second′
       unfolding after
       stepped-kept l = record {
         held = record {
@@ -76,6 +78,7 @@ module _ (g : Scene Shape (List Float)) (size : ℕ) where
             long = d .kept .long;
             fitting = d .kept .fitting;
             total = d .kept .total;
+            sums = d .kept .sums;
             first-long = first-size;
             second-long = second-size;
           };
@@ -88,10 +91,10 @@ module _ (g : Scene Shape (List Float)) (size : ℕ) where
       }
 
       -- an accepted one
-      pub stepped-taken : (list′ : Shapes) → lower new (c .old) ≡ true → T (fits x) → c .place < c .list .count → ExchangeSays (c .list) (c .place) x list′
-          → Stepped g size c (taken c list′ new) first′ second′
+      pub stepped-taken : (list′ : Shapes) (sums′ : Sums) → q (g .paint x (drawn g (without (c .place) (listed (c .list))))) sums′ → lower new (c .old) ≡ true → T (fits x) → c .place < c .list .count → ExchangeSays (c .list) (c .place) x list′
+          → Stepped g size q c (taken c list′ new sums′) first′ second′
       unfolding after
-      stepped-taken list′ l q h s =
+      stepped-taken list′ sums′ u l f-x h s =
           let j = c .place in
           let m = listed (c .list) in
           let below : j < length m = omega (arith, kept-length c first second (d .kept)) in
@@ -100,8 +103,9 @@ module _ (g : Scene Shape (List Float)) (size : ℕ) where
               kept = record {
                 few = omega (arith, s .0, d .kept .few);
                 long = s .1;
-                fitting = subst (λ (l : List Shape). T (every fits l)) (sym (s .2)) (every-without fits j m x (d .kept .fitting) q);
+                fitting = subst (λ (l : List Shape). T (every fits l)) (sym (s .2)) (every-without fits j m x (d .kept .fitting) f-x);
                 total = e ∙ ap (g .total) (sym (drawn-exchanged g m j x) ∙ ap (drawn g) (sym (s .2)));
+                sums = subst (λ (p : List Float). q p sums′) (sym (drawn-exchanged g m j x) ∙ ap (drawn g) (sym (s .2))) u;
                 first-long = first-size;
                 second-long = second-size;
               };
@@ -125,14 +129,14 @@ module _ (g : Scene Shape (List Float)) (size : ℕ) where
   module _ (n : ℕ) where
     -- after i trials of the pass that began at b
     pub record During (b : Progress Shape) (i : ℕ) (c : Course) (first second : List Float) : Type 0 where
-      pub held : Held g size c first second
+      pub held : Held g size q c first second
       pub count : c .list .count ≡ n
       pub inside : i ≤ n
       pub at : progressOf c ≡ nexts g i b
 
     -- between passes, of which `limit` may be made
     pub record Between (end : Progress Shape) (limit : ℕ) (c : Course) (first second : List Float) : Type 0 where
-      pub kept : Kept g size c first second
+      pub kept : Kept g size q c first second
       pub count : c .list .count ≡ n
       pub left : c .passes ≤ limit
       pub few : limit ≤ 16
@@ -147,7 +151,7 @@ module _ (g : Scene Shape (List Float)) (size : ℕ) where
       pub place-below : i < n → c .place < c .list .count
       place-below h = omega (arith, zip-place now-zipped (omega (arith, b-length)), kept-length c first second (d .held .kept))
 
-    pub during-next : (b : Progress Shape) (i : ℕ) (c r : Course) (first second first′ second′ : List Float) → During b i c first second → i < n → Stepped g size c r first′ second′
+    pub during-next : (b : Progress Shape) (i : ℕ) (c r : Course) (first second first′ second′ : List Float) → During b i c first second → i < n → Stepped g size q c r first′ second′
         → During b (i + 1) r first′ second′
     during-next b i c r first second first′ second′ d h s = record {
       held = s .held;
@@ -157,7 +161,7 @@ module _ (g : Scene Shape (List Float)) (size : ℕ) where
     }
 
     -- ---- passes
-    module _ (c : Course) (first second : List Float) (k : Kept g size c first second) (counts : c .list .count ≡ n) (none-yet : progressOf c ≡ nothingYet (listed (c .list))) (p : ℕ) (p-few : p ≤ 16) where
+    module _ (c : Course) (first second : List Float) (k : Kept g size q c first second) (counts : c .list .count ≡ n) (none-yet : progressOf c ≡ nothingYet (listed (c .list))) (p : ℕ) (p-few : p ≤ 16) where
       no-passes : c .passes ≡ 0
       no-passes = ap (λ (a : Progress Shape). a .passes) none-yet
 
@@ -205,6 +209,7 @@ module _ (g : Scene Shape (List Float)) (size : ℕ) where
             long = s .kept .long;
             fitting = s .kept .fitting;
             total = s .kept .total;
+            sums = s .kept .sums;
             first-long = l;
             second-long = s .kept .second-long;
           };

@@ -4,16 +4,18 @@ use mathlib.Core.Option.{Option, none, some}
 use mathlib.Core.List.{List}
 use Prim.Native.Nat.{ℕ, _+_, _*_, _≤_, _<_}
 use lib.Dec.{T}
-use lib.Ieee.{Float}
-use lib.ListN.{length, take}
+use lib.Ieee.{Float, nan}
+use lib.ListN.{length, take, getD}
 use Rattle.laws.specs.Every.{every}
-use Rattle.float.specs.Within.{allWithin}
+use Rattle.float.specs.Within.{nought, allWithin}
 use Rattle.refusal.specs.Refusals.{Sized}
+use Rattle.picture.specs.Rows.{totalOn}
 use Rattle.shapes.specs.declared.Shape.{Shape}
 use Rattle.shapes.specs.declared.Shapes.{Shapes}
 use Rattle.shapes.specs.Lists.{listed}
 use Rattle.shapes.specs.Ranges.{fits}
 use Rattle.refine.specs.declared.Course.{Course}
+use Rattle.refine.specs.declared.Sums.{Sums}
 use Rattle.refine.specs.declared.Refined.{Refined}
 use Rattle.refine.specs.Refinement.{Scene, Progress, drawn, next}
 
@@ -28,49 +30,61 @@ pub record Targeted (w h : ℕ) (target : List Float) : Type 0 where
   pub long : length target ≡ h * w * 3
   pub inside : T (allWithin target)
 
+-- before each of the first n rows of a picture, and after them, stands what is added up so far
+abbrev pub SummedTo : ℕ → ℕ → List Float → List Float → List Float → Type 0
+SummedTo w n target picture sums = (y : ℕ) → y ≤ n → getD sums y nan ≡ totalOn target picture nought 0 (y * w * 3)
+
+abbrev pub summing : ℕ → ℕ → List Float → List Float → Sums → Type 0
+summing w h target picture s = SummedTo w h target picture (s .rows)
+
+-- pictures that are the same from number n on
+abbrev pub SameFrom : ℕ → List Float → List Float → Type 0
+SameFrom n p q = (i : ℕ) → n ≤ i → getD p i nan ≡ getD q i nan
+
 -- the program's numbers as the rule has them
 abbrev pub progressOf : Course → Progress Shape
 progressOf c = record { list = listed (c .list); place = c .place; passes = c .passes; trials = c .trials; acceptances = c .acceptances }
 
--- before the first trial, the total of the list being old
-abbrev pub untried : Shapes → Float → Course
-untried list old = record { list = list; place = 0; passes = 0; trials = 0; acceptances = 0; made = 0; old = old }
+-- before the first trial, the total of the list being old, and its sums
+abbrev pub untried : Shapes → Float → Sums → Course
+untried list old sums = record { list = list; place = 0; passes = 0; trials = 0; acceptances = 0; made = 0; old = old; sums = sums }
 
 -- a trial without an acceptance, but for the pictures
 abbrev pub risen : Course → ℕ → Course
-risen c made = record { list = c .list; place = c .place + 1; passes = c .passes; trials = c .trials + 1; acceptances = c .acceptances; made = made; old = c .old }
+risen c made = record { list = c .list; place = c .place + 1; passes = c .passes; trials = c .trials + 1; acceptances = c .acceptances; made = made; old = c .old; sums = c .sums }
 
--- and one with an acceptance, the list after it being list and its total new
-abbrev pub taken : Course → Shapes → Float → Course
-taken c list new = record { list = list; place = c .place; passes = c .passes; trials = c .trials + 1; acceptances = c .acceptances + 1; made = c .place; old = new }
+-- and one with an acceptance, the list after it being list, its total new and its sums sums
+abbrev pub taken : Course → Shapes → Float → Sums → Course
+taken c list new sums = record { list = list; place = c .place; passes = c .passes; trials = c .trials + 1; acceptances = c .acceptances + 1; made = c .place; old = new; sums = sums }
 
 -- a pass begins
 abbrev pub restarted : Course → Course
-restarted c = record { list = c .list; place = 0; passes = c .passes + 1; trials = c .trials; acceptances = c .acceptances; made = 0; old = c .old }
+restarted c = record { list = c .list; place = 0; passes = c .passes + 1; trials = c .trials; acceptances = c .acceptances; made = 0; old = c .old; sums = c .sums }
 
 -- what is answered at the end
 abbrev pub answered : Course → Refined
 answered c = record { refusal = 0; shapes = c .list; passes = c .passes; trials = c .trials; acceptances = c .acceptances }
 
--- at any time: `old` is the total of the list drawn
-pub record Kept (g : Scene Shape (List Float)) (size : ℕ) (c : Course) (first second : List Float) : Type 0 where
+-- at any time: `old` is the total of the list drawn, and `sums` are its sums, whatever that means
+pub record Kept (g : Scene Shape (List Float)) (size : ℕ) (q : List Float → Sums → Type 0) (c : Course) (first second : List Float) : Type 0 where
   pub few : c .list .count ≤ 64
   pub long : length (c .list .items) ≡ 64
   pub fitting : T (every fits (listed (c .list)))
   pub total : c .old ≡ g .total (drawn g (listed (c .list)))
+  pub sums : q (drawn g (listed (c .list))) (c .sums)
   pub first-long : length first ≡ size
   pub second-long : length second ≡ size
 
 -- during a pass: `first` has the first `made` shapes drawn, of those before j
-pub record Held (g : Scene Shape (List Float)) (size : ℕ) (c : Course) (first second : List Float) : Type 0 where
-  pub kept : Kept g size c first second
+pub record Held (g : Scene Shape (List Float)) (size : ℕ) (q : List Float → Sums → Type 0) (c : Course) (first second : List Float) : Type 0 where
+  pub kept : Kept g size q c first second
   pub behind : c .made ≤ c .place
   pub some-drawn : first ≡ drawn g (take (c .made) (listed (c .list)))
   pub inside : T (allWithin first)
 
 -- after a trial: the rule's next
-pub record Stepped (g : Scene Shape (List Float)) (size : ℕ) (c r : Course) (first second : List Float) : Type 0 where
-  pub held : Held g size r first second
+pub record Stepped (g : Scene Shape (List Float)) (size : ℕ) (q : List Float → Sums → Type 0) (c r : Course) (first second : List Float) : Type 0 where
+  pub held : Held g size q r first second
   pub same-count : r .list .count ≡ c .list .count
   pub at : progressOf r ≡ next g (progressOf c)
 

@@ -17,7 +17,8 @@ ghost use Rattle.shapes.specs.Ranges.{fits};
 ghost use Rattle.refine.specs.Refinement.{paintedOn};
 ghost use Rattle.refine.specs.Scenes.{shapePainted, sceneWith};
 ghost use Rattle.refine.specs.Tests.{sizeTests, rangeTests};
-ghost use Rattle.refine.specs.Courses.{Drawable, Targeted, untried, risen, taken, restarted, answered, Held, Stepped, Ready};
+ghost use Rattle.cover.specs.ReachRows.{reachRows};
+ghost use Rattle.refine.specs.Courses.{Drawable, Targeted, SummedTo, summing, SameFrom, untried, risen, taken, restarted, answered, Held, Stepped, Ready};
 ghost use Rattle.refine.specs.Answers.{told, refusedWith, RefineShapesSays};
 use shapes::Candidate;
 use shapes::Candidates;
@@ -34,8 +35,13 @@ pub struct Refined {
     pub acceptances: usize,
 }
 
+// The total of a picture before each row, and after the last.
+struct Sums {
+    rows: [f64; 257],
+}
+
 // How far refinement has come: the list, the place j of the next trial and the three counts of the answer; how many shapes the
-// first work picture has, and the total of the whole list.
+// first work picture has, the total of the whole list, and its total before each row.
 struct Course {
     list: Shapes,
     place: usize,
@@ -44,6 +50,7 @@ struct Course {
     acceptances: usize,
     made: usize,
     old: f64,
+    sums: Sums,
 }
 
 // ---- drawing
@@ -90,10 +97,46 @@ fn draw(w: usize, h: usize, red: f32, green: f32, blue: f32, list: Shapes, canva
     paint_part(w, h, list, 0, list.count, canvas);
 }
 
+// ---- totals
+
+// The sums of a picture from row `top` on: those before it stand already. The rows above `top` are not read.
+fn sum_rows(w: usize, h: usize, target: &[f32], canvas: &[f32], top: usize, mut sums: Sums) -> Sums
+    requires { ⌜ Sized w h × Targeted w h (now target) × (length (now canvas) ≡ h * w * 3) × T (allWithin (now canvas)) × (top ≤ h) ⌝ }
+    ensures { λ r. ⌜ ((p : List Float) → SameFrom (top * w * 3) p (now (canvas .entry)) → SummedTo w top (now (target .entry)) p (sums .rows) → summing w h (now (target .entry)) p r) ⌝ }
+{
+    let mut y = top;
+    while y < h {
+        let so_far = sums.rows[y];
+        let sum = picture::rows::total_on(target, canvas, y * w * 3, w * 3, so_far);
+        sums.rows[y + 1] = sum;
+        y += 1;
+    }
+    sums
+}
+
+// The first row that a shape can reach.
+fn first_row(h: usize, s: Shape) -> usize
+    requires { ⌜ (h ≤ 256) × T (fits s) ⌝ }
+    ensures { λ r. ⌜ r ≡ reachRows (s .kind) h .top ⌝ }
+{
+    let kind = s.kind;
+    let rows = cover::reached::reach_rows(kind, h);
+    rows.top
+}
+
+// How many rows of a picture stay as they were if one shape goes and another comes.
+fn spared(h: usize, s: Shape, x: Shape) -> usize
+    requires { ⌜ (h ≤ 256) × T (fits s) × T (fits x) ⌝ }
+    ensures { λ r. ⌜ (r ≤ h) × (r ≤ reachRows (s .kind) h .top) × (r ≤ reachRows (x .kind) h .top) ⌝ }
+{
+    let top = whole::min_usize(first_row(h, s), first_row(h, x));
+    whole::min_usize(top, h)
+}
+
 // ---- one trial
 
 // What is left of the shapes before j is painted on `first`, which has the first `made` of them. On `second` come those, the shapes
-// after j and the candidate: its total is answered.
+// after j and the candidate: its sums are answered. Above the rows that shape j and the candidate reach they are those of the list.
 fn try_candidate(
     w: usize,
     h: usize,
@@ -102,20 +145,24 @@ fn try_candidate(
     made: usize,
     j: usize,
     x: Shape,
+    sums: Sums,
     first: &mut [f32],
     second: &mut [f32],
-) -> f64
+) -> Sums
     requires { ⌜ Drawable w h list × (made ≤ j) × (j < list .count) × T (fits x) ⌝ }
     requires { ⌜ Targeted w h (now target) × (length (now first) ≡ h * w * 3) × (length (now second) ≡ h * w * 3) × T (allWithin (now first)) ⌝ }
     ensures { λ r. ⌜ (now (first .exit) ≡ paintedOn (shapePainted w h) (now (first .entry)) (slice made j (list .items)))
         × T (allWithin (now (first .exit)))
-        × (r ≡ totalOf (now (target .entry)) (shapePainted w h x (paintedOn (shapePainted w h) (now (first .exit)) (slice (j + 1) (list .count) (list .items))))) ⌝ }
+        × (summing w h (now (target .entry)) (paintedOn (shapePainted w h) (now (first .exit)) (slice j (list .count) (list .items))) sums
+        → summing w h (now (target .entry)) (shapePainted w h x (paintedOn (shapePainted w h) (now (first .exit)) (slice (j + 1) (list .count) (list .items)))) r) ⌝ }
 {
     paint_part(w, h, list, made, j, first);
     copy(first, second);
     paint_part(w, h, list, j + 1, list.count, second);
     paint(w, h, x, second);
-    picture::total_within(target, second)
+    let old = list.items[j];
+    let top = spared(h, old, x);
+    sum_rows(w, h, target, second, top, sums)
 }
 
 // No acceptance: j rises by one.
@@ -124,6 +171,7 @@ fn rise(c: Course, made: usize) -> Course
     ensures { λ r. ⌜ r ≡ risen c made ⌝ }
 {
     let list = c.list;
+    let sums = c.sums;
     let trials = c.trials + 1;
     Course {
         list,
@@ -133,13 +181,14 @@ fn rise(c: Course, made: usize) -> Course
         acceptances: c.acceptances,
         made,
         old: c.old,
+        sums,
     }
 }
 
-// The list with the exchange made: j stays, and the candidate's total is that of the list.
-fn accept(c: Course, list: Shapes, new: f64) -> Course
+// The list with the exchange made: j stays, and the candidate's total and sums are those of the list.
+fn accept(c: Course, list: Shapes, new: f64, sums: Sums) -> Course
     requires { ⌜ (c .trials < 1024) × (c .acceptances ≤ c .trials) ⌝ }
-    ensures { λ r. ⌜ r ≡ taken c list new ⌝ }
+    ensures { λ r. ⌜ r ≡ taken c list new sums ⌝ }
 {
     Course {
         list,
@@ -149,6 +198,7 @@ fn accept(c: Course, list: Shapes, new: f64) -> Course
         acceptances: c.acceptances + 1,
         made: c.place,
         old: new,
+        sums,
     }
 }
 
@@ -165,18 +215,20 @@ fn step(
 ) -> Course
     requires { ⌜ Ready w h (now target) c (shapeIn what) (now first) (now second) ⌝ }
     ensures { λ r. ⌜ ((b : List Float) (f : ℕ → Option Shape) → f (c .trials) ≡ shapeIn what
-        → Held (sceneWith w h (now (target .entry)) b f) (h * w * 3) c (now (first .entry)) (now (second .entry))
-        → Stepped (sceneWith w h (now (target .entry)) b f) (h * w * 3) c r (now (first .exit)) (now (second .exit))) ⌝ }
+        → Held (sceneWith w h (now (target .entry)) b f) (h * w * 3) (summing w h (now (target .entry))) c (now (first .entry)) (now (second .entry))
+        → Stepped (sceneWith w h (now (target .entry)) b f) (h * w * 3) (summing w h (now (target .entry))) c r (now (first .exit)) (now (second .exit))) ⌝ }
 {
     match what {
         Candidate::Nothing => rise(c, c.made),
         Candidate::Some(x) => {
             let list = c.list;
             let j = c.place;
-            let new = try_candidate(w, h, target, list, c.made, j, x, first, second);
+            let sums = c.sums;
+            let sums = try_candidate(w, h, target, list, c.made, j, x, sums, first, second);
+            let new = sums.rows[h];
             if new + 1e-9 < c.old {
                 let list = shapes::exchange(list, j, x);
-                accept(c, list, new)
+                accept(c, list, new, sums)
             } else {
                 rise(c, j)
             }
@@ -260,10 +312,15 @@ fn start(
     first: &mut [f32],
 ) -> Course
     requires { ⌜ Drawable w h list × (badColour red green blue ≡ false) × Targeted w h (now target) × (length (now first) ≡ h * w * 3) ⌝ }
-    ensures { λ r. ⌜ r ≡ untried list (totalOf (now (target .entry)) (paintedOn (shapePainted w h) (filled w h red green blue) (listed list))) ⌝ }
+    ensures { λ r. ⌜ (r ≡ untried list (totalOf (now (target .entry)) (paintedOn (shapePainted w h) (filled w h red green blue) (listed list))) (r .sums))
+        × summing w h (now (target .entry)) (paintedOn (shapePainted w h) (filled w h red green blue) (listed list)) (r .sums) ⌝ }
 {
     draw(w, h, red, green, blue, list, first);
-    let old = picture::total_within(target, first);
+    let nothing = Sums {
+        rows: [0.0f64; 257],
+    };
+    let sums = sum_rows(w, h, target, first, 0, nothing);
+    let old = sums.rows[h];
     Course {
         list,
         place: 0,
@@ -272,6 +329,7 @@ fn start(
         acceptances: 0,
         made: 0,
         old,
+        sums,
     }
 }
 
@@ -300,6 +358,7 @@ fn restart(
 {
     picture::fill(w, h, red, green, blue, first);
     let list = c.list;
+    let sums = c.sums;
     Course {
         list,
         place: 0,
@@ -308,6 +367,7 @@ fn restart(
         acceptances: c.acceptances,
         made: 0,
         old: c.old,
+        sums,
     }
 }
 

@@ -1,7 +1,6 @@
 -- What `blend` ensures; an opacity of format f32 and colours within 0..1 keep the picture within 0..1.
 use borrow.Author.Needs.{needs}
 use mathlib.Core.Path.{_≡_, refl, sym}
-use mathlib.Core.Bool.{Bool, true, false, not}
 use lib.Dec.{T}
 use lib.Ieee.{binary32}
 use lib.Ieee as ieee
@@ -11,18 +10,15 @@ use Rattle.float.specs.Within.{allWithin}
 use mathlib.Core.List.{List}
 use mathlib.Core.Path.{subst}
 use lib.Ieee.{Float}
-use Rattle.shapes.specs.RangeLaws.{fits-places, fits-opacity, fits-colour}
+use Rattle.shapes.specs.RangeLaws.{fits-opacity, fits-colour}
+use Rattle.refine.specs.SumLaws.{holds-not, well-placed}
 use Rattle.refine.proofs.paint.Statement.{statement}
 use Rattle.refine.proofs.paint.Tie as tie
-
-holds-not : (b : Bool) → T (not b) → b ≡ false
-holds-not true h = absurd h
-holds-not false h = refl
 
 blend-requires : tie.Need-blend-requires
 blend-requires c κs =
     let s = c .before .before in
-    (s .pre .0, (holds-not _ (fits-places (s .args .s) (s .pre .2)), s .pre .1))
+    (s .pre .0, (well-placed (s .args .s) (s .pre .2), s .pre .1))
 
 same-length : tie.Need-same-length
 same-length c = search needs

@@ -1,18 +1,16 @@
 -- The loop carries the part painted so far; a shape below the count fits.
 use borrow.Author.Needs.{needs}
-use mathlib.Core.Path.{_≡_, sym, ap, subst, _∙_}
+use mathlib.Core.Path.{_≡_, ap, _∙_}
 use Prim.Native.Nat.{ℕ, _≤_, _<_, _-_, _+_}
-use Rattle.shapes.specs.declared.Shape.{Shape}
 use lib.Dec.{T}
-use lib.ListN.{length, take, getD, length-map}
-use lib.Seq.{slice, getD-take, length-take-le}
-use Rattle.laws.specs.EveryLaws.{every-each}
+use lib.ListN.{length, length-map}
+use lib.Seq.{slice}
 use Rattle.float.specs.Within.{allWithin}
 use Rattle.shapes.specs.Blank.{blank}
-use Rattle.shapes.specs.Ranges.{fits}
 use Rattle.refine.specs.Refinement.{paintedOn}
 use Rattle.refine.specs.Scenes.{shapePainted}
 use Rattle.refine.specs.PartLaws.{part-none, part-more}
+use Rattle.refine.specs.SumLaws.{shape-fits}
 use native.Mathlib.Omega.{arith}
 use Rattle.refine.proofs.paint_part.Statement.{statement}
 use Rattle.refine.proofs.paint_part.Tie as tie
@@ -39,21 +37,13 @@ element-copy-out-x c = search needs
 len : (s : tie.Start Inv-loop μ-loop) → length (s .args .t3 .items) ≡ 64
 len s = simp length-map at (s .good .1 .1 .0 .1 .1 .0 .1 .0 .1)
 
--- a shape of the list fits
-placed : (s : tie.Start Inv-loop μ-loop) (i : ℕ) → i < s .args .t3 .count → T (fits (getD (s .args .t3 .items) i blank))
-placed s i h =
-    let items = s .args .t3 .items in
-    let n = s .args .t3 .count in
-    subst (λ (x : Shape). T (fits x)) (getD-take n items i blank h)
-    (every-each fits (take n items) i blank (s .pre .0 .fitting) (omega (arith, length-take-le n items (omega (arith, len s)))))
-
 paint-requires : tie.Need-paint-requires Inv-loop μ-loop
 paint-requires c κs =
     let l = c .before .before .before in
     let s = l .before .before in (
       search needs,
       l .loop .inv .2 ∙ s .pre .3,
-      placed s (l .loop .i) (omega arith),
+      shape-fits (s .args .t3) (l .loop .i) (omega arith) (omega (arith, len s)) (s .pre .0 .fitting),
       l .loop .inv .4,
     )
 

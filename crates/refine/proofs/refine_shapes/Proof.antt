@@ -18,11 +18,12 @@ use Rattle.shapes.specs.Lists.{listed, shapeIn, offered}
 use Rattle.shapes.specs.Ranges.{rangesOf}
 use Rattle.refine.specs.declared.Course.{Course}
 use Rattle.refine.specs.declared.Refined.{Refined}
+use Rattle.refine.specs.declared.Sums.{Sums}
 use Rattle.refine.specs.Refinement.{Scene, Progress, drawn, refined}
 use Rattle.refine.specs.Scenes.{sceneOf}
 use Rattle.refine.specs.Tests.{lookedAt}
 use Rattle.refine.specs.TestLaws.{SizesPassed, RangesPassed, sizes-passed, ranges-passed, refusal-sizes, refusal-ranges}
-use Rattle.refine.specs.Courses.{progressOf, restarted, Stepped}
+use Rattle.refine.specs.Courses.{progressOf, restarted, summing, Stepped}
 use Rattle.refine.specs.CourseLaws.{During, Between, listed-length, during-start, during-next, between-end}
 use Rattle.refine.specs.CallLaws.{lookedUpTo, look-none, look-more, list-fits, offers-fit, offer-at, offer-fits, started, trial-below, ready, onward, fewer}
 use Rattle.refine.specs.AnswerLaws.{done-says, refused-says}
@@ -41,7 +42,7 @@ abbrev μ-loop : tie.MeasureT-loop
 -- t trials of a pass
 abbrev Inv-loop3 : tie.InvT-loop3
 Inv-loop3 passes red green blue w h target first₀ second₀ candidates n offers number i number' c₀ limit before t₀ first second c t =
-    During (sceneOf w h red green blue target candidates) (h * w * 3) n (progressOf c₀) t c first second
+    During (sceneOf w h red green blue target candidates) (h * w * 3) (summing w h target) n (progressOf c₀) t c first second
 
 abbrev μ-loop3 : tie.MeasureT-loop3
 μ-loop3 passes red green blue w h target first₀ second₀ candidates n offers number i number' c₀ limit before t₀ first second c t =
@@ -50,7 +51,7 @@ abbrev μ-loop3 : tie.MeasureT-loop3
 -- some passes
 abbrev Inv-loop2 : tie.InvT-loop2
 Inv-loop2 passes red green blue w h target first₀ second₀ candidates n offers number i number' c₀ limit₀ first second c limit =
-    Between (sceneOf w h red green blue target candidates) (h * w * 3) n (refined (sceneOf w h red green blue target candidates) passes (listed (c₀ .list))) limit c first second
+    Between (sceneOf w h red green blue target candidates) (h * w * 3) (summing w h target) n (refined (sceneOf w h red green blue target candidates) passes (listed (c₀ .list))) limit c first second
 
 abbrev μ-loop2 : tie.MeasureT-loop2
 μ-loop2 passes red green blue w h target first₀ second₀ candidates n offers number i number' c₀ limit₀ first second c limit =
@@ -65,6 +66,10 @@ sceneAt s = sceneOf (s .args .w) (s .args .h) (s .args .red) (s .args .green) (s
 
 abbrev sizeAt : tie.Start Inv-loop μ-loop Inv-loop3 μ-loop3 Inv-loop2 μ-loop2 → ℕ
 sizeAt s = s .args .h * s .args .w * 3
+
+-- what the sums of a picture are
+abbrev sumsAt : tie.Start Inv-loop μ-loop Inv-loop3 μ-loop3 Inv-loop2 μ-loop2 → List Float → Sums → Type 0
+sumsAt s = summing (s .args .w) (s .args .h) (s .args .target .now)
 
 -- an array's length is among what owning the parameter tells
 items-long : (s : tie.Start Inv-loop μ-loop Inv-loop3 μ-loop3 Inv-loop2 μ-loop2) → length (s .args .list .items) ≡ 64
@@ -168,7 +173,7 @@ loop2-holds c =
     let z = sizes (c .before .before .before .before .before .before .before .before .before .before) in
     let r = ranges (c .before .before .before .before .before) in
     let u = c .before .before .before .start in
-    started (sceneAt s) (sizeAt s) (a .list) (u .last .1 .1 .1 .1 .1 .1 .1 .0) (a .second .now) (a .passes) (c .most .result) (u .result) (u .ensures) (z .few-shapes) (items-long s) (list-fits (a .list) (a .t2) (r .fitting))
+    started (sceneAt s) (sizeAt s) (sumsAt s) (a .list) (u .last .1 .1 .1 .1 .1 .1 .1 .0) (a .second .now) (a .passes) (c .most .result) (u .result) (u .ensures .0) (u .ensures .1) (z .few-shapes) (items-long s) (list-fits (a .list) (a .t2) (r .fitting))
     (u .kept .1 .1 .1 .1 .1 .1 .1 .0 ∙ z .first-long) (z .second-long) (z .few-passes) (c .most .ensures)
 
 restart-requires : tie.Need-restart-requires Inv-loop μ-loop Inv-loop3 μ-loop3 Inv-loop2 μ-loop2
@@ -183,14 +188,14 @@ loop3-holds c =
     let l = c .before .before .before .before .before .before .loop2 in
     let r = c .before .before .restart in
     let first = r .last .1 .1 .1 .1 .1 .1 .0 in
-    subst (λ (m : Course). During (sceneAt s) (sizeAt s) (a .list .count) (progressOf m) 0 m first (l .second)) (sym (r .ensures .0))
-    (during-start (sceneAt s) (sizeAt s) (a .list .count) (refined (sceneAt s) (a .passes) (listed (c .before .before .before .before .before .before .before .before .before .before .start .result .list))) (l .limit) (l .c) (l .first) (l .second) (l .inv) (c .before .before .before .before .if3 .taken) first (r .ensures .1)
+    subst (λ (m : Course). During (sceneAt s) (sizeAt s) (sumsAt s) (a .list .count) (progressOf m) 0 m first (l .second)) (sym (r .ensures .0))
+    (during-start (sceneAt s) (sizeAt s) (sumsAt s) (a .list .count) (refined (sceneAt s) (a .passes) (listed (c .before .before .before .before .before .before .before .before .before .before .start .result .list))) (l .limit) (l .c) (l .first) (l .second) (l .inv) (c .before .before .before .before .if3 .taken) first (r .ensures .1)
     (r .kept .1 .1 .1 .1 .1 .1 .0 ∙ l .inv .kept .first-long)
     (subst (λ (p : List Float). T (allWithin p)) (sym (r .ensures .1)) (filled-within (a .w) (a .h) (a .red) (a .green) (a .blue) (ranges (c .before .before .before .before .before .before .before .before .before .before .before .before) .background))))
 
 -- the pass that is being made began with the course after the passes before it
 abbrev FromAt : tie.At-loop3 Inv-loop μ-loop Inv-loop3 μ-loop3 Inv-loop2 μ-loop2 → Progress Shape → Type 0
-FromAt c b = During (sceneAt (c .before .before .before .before .before .before .before .before .before .before .before .before .before .before .before .before .before .before .before .before .before .before .before)) (sizeAt (c .before .before .before .before .before .before .before .before .before .before .before .before .before .before .before .before .before .before .before .before .before .before .before)) (c .before .before .before .before .before .before .before .before .before .before .before .before .before .before .before .before .before .before .before .before .before .before .before .args .list .count) b (c .loop3 .t) (c .loop3 .c) (c .loop3 .first) (c .loop3 .second)
+FromAt c b = During (sceneAt (c .before .before .before .before .before .before .before .before .before .before .before .before .before .before .before .before .before .before .before .before .before .before .before)) (sizeAt (c .before .before .before .before .before .before .before .before .before .before .before .before .before .before .before .before .before .before .before .before .before .before .before)) (sumsAt (c .before .before .before .before .before .before .before .before .before .before .before .before .before .before .before .before .before .before .before .before .before .before .before)) (c .before .before .before .before .before .before .before .before .before .before .before .before .before .before .before .before .before .before .before .before .before .before .before .args .list .count) b (c .loop3 .t) (c .loop3 .c) (c .loop3 .first) (c .loop3 .second)
 
 during : (c : tie.At-loop3 Inv-loop μ-loop Inv-loop3 μ-loop3 Inv-loop2 μ-loop2) → FromAt c (progressOf (restarted (c .before .before .before .before .before .before .before .loop2 .c)))
 during c = subst (λ (m : Course). FromAt c (progressOf m)) (c .before .before .before .restart .ensures .0) (c .loop3 .inv)
@@ -204,7 +209,7 @@ below i =
     let s = c .before .before .before .before .before .before .before .before .before .before .before .before .before .before .before .before .before .before .before .before .before .before .before in
     let o = c .before .before .before .before .before .before .before .loop2 in
     let l = c .loop3 in
-    trial-below (sceneAt s) (sizeAt s) (s .args .list .count) (endAt c) (o .limit) (o .c) (o .first) (o .second) (o .inv) (c .before .before .before .before .before .if3 .taken) (l .t) (l .c) (l .first) (l .second) (during c) (i .loop3-test .taken)
+    trial-below (sceneAt s) (sizeAt s) (sumsAt s) (s .args .list .count) (endAt c) (o .limit) (o .c) (o .first) (o .second) (o .inv) (c .before .before .before .before .before .if3 .taken) (l .t) (l .c) (l .first) (l .second) (during c) (i .loop3-test .taken)
 
 mul-slot-2 : tie.Need-mul-slot-2 Inv-loop μ-loop Inv-loop3 μ-loop3 Inv-loop2 μ-loop2
 mul-slot-2 c = omega (arith, below c)
@@ -231,7 +236,7 @@ step-requires c κs =
     let l = m .loop3 in
     let z = sizes (m .before .before .before .before .before .before .before .before .before .before .before .before .before .before .before .before .before .before) in
     let r = ranges (m .before .before .before .before .before .before .before .before .before .before .before .before .before) in
-    ready (sceneAt s) (sizeAt s) (a .list .count) (endAt m) (o .limit) (o .c) (o .first) (o .second) (o .inv) (m .before .before .before .before .before .if3 .taken) (l .t) (l .c) (l .first) (l .second) (during m) (a .w) (a .h) (a .target .now)
+    ready (sceneAt s) (sizeAt s) (sumsAt s) (a .list .count) (endAt m) (o .limit) (o .c) (o .first) (o .second) (o .inv) (m .before .before .before .before .before .if3 .taken) (l .t) (l .c) (l .first) (l .second) (during m) (a .w) (a .h) (a .target .now)
     (shapeIn (c .before .before .offer .result)) refl (i .loop3-test .taken) (z .sized) (record { long = z .target-long; inside = r .target-within })
     (offer-fits (offered (a .t2)) (l .c .trials) (shapeIn (c .before .before .offer .result)) (offers-fit (a .list) (a .t2) (r .fitting)) (trial-offer (c .before .before)))
 
@@ -250,7 +255,7 @@ loop3-again c =
     let k = c .before .before .before .before .step in
     let first = k .last .1 .1 .1 .1 .1 .0 in
     let second = k .last .1 .1 .1 .1 .1 .1 .0 in
-    during-next (sceneAt s) (sizeAt s) (a .list .count) (progressOf (m .before .before .before .restart .result)) (l .t) (l .c) (k .result) (l .first) (l .second) first second (l .inv) (c .before .before .before .before .before .before .before .before .before .loop3-test .taken)
+    during-next (sceneAt s) (sizeAt s) (sumsAt s) (a .list .count) (progressOf (m .before .before .before .restart .result)) (l .t) (l .c) (k .result) (l .first) (l .second) first second (l .inv) (c .before .before .before .before .before .before .before .before .before .loop3-test .taken)
     (k .ensures (filled (a .w) (a .h) (a .red) (a .green) (a .blue)) (λ j. getD (offered (a .t2)) j none) (trial-offer (c .before .before .before .before .before .before .before)) (l .inv .held))
 
 still-requires : tie.Need-still-requires Inv-loop μ-loop Inv-loop3 μ-loop3 Inv-loop2 μ-loop2
@@ -263,7 +268,7 @@ loop2-less c =
     let a = s .args in
     let o = m .before .before .before .before .before .before .before .loop2 in
     let l = m .loop3 in
-    fewer (sceneAt s) (sizeAt s) (a .list .count) (endAt m) (o .limit) (o .c) (o .first) (o .second) (o .inv) (m .before .before .before .before .before .if3 .taken) (l .t) (l .c) (l .first) (l .second) (during m) (c .still .result) (c .still .ensures)
+    fewer (sceneAt s) (sizeAt s) (sumsAt s) (a .list .count) (endAt m) (o .limit) (o .c) (o .first) (o .second) (o .inv) (m .before .before .before .before .before .if3 .taken) (l .t) (l .c) (l .first) (l .second) (during m) (c .still .result) (c .still .ensures)
 
 loop2-again : tie.Need-loop2-again Inv-loop μ-loop Inv-loop3 μ-loop3 Inv-loop2 μ-loop2
 loop2-again c =
@@ -272,7 +277,7 @@ loop2-again c =
     let a = s .args in
     let o = m .before .before .before .before .before .before .before .loop2 in
     let l = m .loop3 in
-    onward (sceneAt s) (sizeAt s) (a .list .count) (endAt m) (o .limit) (o .c) (o .first) (o .second) (o .inv) (m .before .before .before .before .before .if3 .taken) (l .t) (l .c) (l .first) (l .second) (during m) (c .still .result) (c .before .loop3-test .left) (c .still .ensures)
+    onward (sceneAt s) (sizeAt s) (sumsAt s) (a .list .count) (endAt m) (o .limit) (o .c) (o .first) (o .second) (o .inv) (m .before .before .before .before .before .if3 .taken) (l .t) (l .c) (l .first) (l .second) (during m) (c .still .result) (c .before .loop3-test .left) (c .still .ensures)
 
 finish-requires : tie.Need-finish-requires Inv-loop μ-loop Inv-loop3 μ-loop3 Inv-loop2 μ-loop2
 finish-requires c κs =
@@ -309,8 +314,8 @@ returns-3 c =
     (sym (m .before .before .before .before .before .before .before .before .before .before .before .if1 .left) ∙ m .before .before .before .before .before .before .before .before .before .before .before .before .size-refusal .ensures) (looked (m .before .before .before .before .before .before .before .before)) ∙ sym (m .before .before .before .before .before .before .before .range-refusal .ensures) ∙ m .before .before .before .before .before .before .if2 .left)
     (c .answer .result) (l .c .list) (l .c .place) (f .last .1 .1 .1 .1 .1 .1 .0) (f .last .1 .1 .1 .1 .1 .1 .1 .0) (ap (λ (r : Refined). r .refusal) k) (ap (λ (r : Refined). r .shapes) k) (sym (listed-length (l .c .list) (l .inv .kept .few) (l .inv .kept .long)))
     (ap (λ (r : Refined). record { list = listed (l .c .list); place = l .c .place; passes = r .passes; trials = r .trials; acceptances = r .acceptances }) k
-    ∙ between-end (sceneAt s) (sizeAt s) (a .list .count) (refined (sceneAt s) (a .passes) (listed (start .result .list))) (l .limit) (l .c) (l .first) (l .second) (l .inv) (c .before .before .before .before .before .before .before .before .before .if3 .left)
-    ∙ ap (λ (x : Course). refined (sceneAt s) (a .passes) (listed (x .list))) (start .ensures))
+    ∙ between-end (sceneAt s) (sizeAt s) (sumsAt s) (a .list .count) (refined (sceneAt s) (a .passes) (listed (start .result .list))) (l .limit) (l .c) (l .first) (l .second) (l .inv) (c .before .before .before .before .before .before .before .before .before .if3 .left)
+    ∙ ap (λ (x : Course). refined (sceneAt s) (a .passes) (listed (x .list))) (start .ensures .0))
     (f .ensures .0) (f .ensures .1)
 
 pub refine-shapes-spec : {M : Type 1} → statement M

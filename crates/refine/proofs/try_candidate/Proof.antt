@@ -1,18 +1,26 @@
--- What painting, copying and the total ensure, one after the other.
+-- What painting, copying and the sums ensure, one after the other.
 use borrow.Author.Needs.{needs}
 use mathlib.Core.Path.{_≡_, sym, ap, subst, _∙_}
 use mathlib.Core.List.{List}
 use Prim.Native.Nat.{_+_}
 use native.Mathlib.Omega.{arith}
 use lib.Dec.{T}
-use lib.Ieee.{Float}
+use lib.Ieee.{Float, nan}
+use lib.ListN.{length, length-map, getD}
 use lib.Seq.{slice}
 use Rattle.float.specs.Within.{allWithin}
-use Rattle.picture.specs.Pixels.{totalOf}
+use Rattle.shapes.specs.declared.Shape.{Shape}
+use Rattle.shapes.specs.Blank.{blank}
 use Rattle.refine.specs.Refinement.{paintedOn}
 use Rattle.refine.specs.Scenes.{shapePainted}
+use Rattle.refine.specs.Courses.{summing}
+use Rattle.refine.specs.SumLaws.{shape-fits, slice-first, trial-sums}
 use Rattle.refine.proofs.try_candidate.Statement.{statement}
 use Rattle.refine.proofs.try_candidate.Tie as tie
+
+-- an array's length is among what owning the parameter tells
+len : (s : tie.Start) → length (s .args .t4 .items) ≡ 64
+len s = simp length-map at (s .good .1 .1 .1 .0 .1 .1 .0 .1 .0 .1)
 
 paint-part-requires : tie.Need-paint-part-requires
 paint-part-requires c κs = search needs
@@ -37,11 +45,26 @@ paint-part-requires-2 c κs =
 paint-requires : tie.Need-paint-requires
 paint-requires c κs = search needs
 
-total-within-requires : tie.Need-total-within-requires
-total-within-requires c κs =
-    let s = c .before .before .before .before .before .before .before .before .before .before .before .before .before .before .before .before .before .before .before .before .before in (
-      s .pre .1 .0 .long ∙ sym (c .before .before .before .paint .kept .1 .1 .1 .0 ∙ c .before .before .before .before .before .before .before .paint-part2 .kept .1 .1 .1 .1 .1 .0 ∙ c .before .before .before .before .before .before .before .before .before .before .before .copy .kept .1 .0 ∙ s .pre .1 .2),
-      (s .pre .1 .0 .inside, c .before .before .before .paint .ensures .1),
+mul-old : tie.Need-mul-old
+mul-old c = search needs
+
+element-copy-out-old : tie.Need-element-copy-out-old
+element-copy-out-old c = search needs
+
+spared-requires : tie.Need-spared-requires
+spared-requires c κs =
+    let s = c .before .before .before .before .before .before .before .before .before .before .before .before .before .before .before .before .before .before .before .before .before in
+    (s .pre .0 .0 .sized .h-high, shape-fits (s .args .t4) (s .args .j) (s .pre .0 .2) (omega (arith, len s, s .pre .0 .0 .few)) (s .pre .0 .0 .fitting), s .pre .0 .3)
+
+sum-rows-requires : tie.Need-sum-rows-requires
+sum-rows-requires c κs =
+    let s = c .before .before .before .before .before .before .before .before .before .before .before .before .before .before .before .before .before .before .before .before .before .before .before in
+    let p = c .before .before .before .before .before .paint in (
+      s .pre .0 .0 .sized,
+      s .pre .1 .0,
+      p .kept .1 .1 .1 .0 ∙ c .before .before .before .before .before .before .before .before .before .paint-part2 .kept .1 .1 .1 .1 .1 .0 ∙ c .before .before .before .before .before .before .before .before .before .before .before .before .before .copy .kept .1 .0 ∙ s .pre .1 .2,
+      p .ensures .1,
+      c .before .spared .ensures .0,
     )
 
 same-length : tie.Need-same-length
@@ -52,16 +75,21 @@ same-length-2 c = search needs
 
 returns : tie.Need-returns
 returns c =
-    let k = c .before .before .before .before .before .before .before .before .before .before .before .before in
-    let f = k .before .before .before .before .before .paint-part .ensures in
-    let a = k .before .before .before .before .before .before .before .before .before .before .args in (
-      f .0,
-      f .1,
-      c .total-within .ensures
-          ∙ ap (totalOf (a .target .now))
-          (c .before .before .before .before .paint .ensures .0
-          ∙ ap (shapePainted (a .w) (a .h) (a .x))
-          (c .before .before .before .before .before .before .before .before .paint-part2 .ensures .0 ∙ ap (λ (q : List Float). paintedOn (shapePainted (a .w) (a .h)) q (slice (a .j + 1) (a .list .count) (a .list .items))) (k .copy .ensures))),
+    let s = c .before .before .before .before .before .before .before .before .before .before .before .before .before .before .before .before .before .before .before .before .before .before .before .before in
+    let a = s .args in
+    let f = c .before .before .before .before .before .before .before .before .before .before .before .before .before .before .before .before .before .before .before .paint-part in
+    let first = f .last .1 .1 .1 .1 .1 .0 in
+    let rest = slice (a .j + 1) (a .t4 .count) (a .t4 .items) in
+    let e =
+    c .before .before .before .before .before .before .paint .ensures .0
+    ∙ ap (shapePainted (a .w) (a .h) (a .x)) (c .before .before .before .before .before .before .before .before .before .before .paint-part2 .ensures .0 ∙ ap (λ (q : List Float). paintedOn (shapePainted (a .w) (a .h)) q rest) (c .before .before .before .before .before .before .before .before .before .before .before .before .before .before .copy .ensures)) in
+    let o = c .before .before .spared .ensures in (
+      f .ensures .0,
+      f .ensures .1,
+      λ all.
+          c .sum-rows .ensures (shapePainted (a .w) (a .h) (a .x) (paintedOn (shapePainted (a .w) (a .h)) first rest)) (λ i k. ap (λ (q : List Float). getD q i nan) (sym e))
+          (trial-sums (a .w) (a .h) (s .pre .0 .0 .sized .w-low) first (getD (a .t4 .items) (a .j) blank) (a .x) rest (c .before .before .spared .result) (o .0) (o .1) (o .2) (a .target .now) (a .sums)
+          (subst (λ (l : List Shape). summing (a .w) (a .h) (a .target .now) (paintedOn (shapePainted (a .w) (a .h)) first l) (a .sums)) (slice-first (a .t4 .items) (a .j) (a .t4 .count) blank (s .pre .0 .2) (omega (arith, len s, s .pre .0 .0 .few))) all)),
     )
 
 pub try-candidate-spec : {M : Type 1} → statement M
@@ -73,7 +101,10 @@ try-candidate-spec =
     add-paint-part
     paint-part-requires-2
     paint-requires
-    total-within-requires
+    mul-old
+    element-copy-out-old
+    spared-requires
+    sum-rows-requires
     same-length
     same-length-2
     returns)
