@@ -6,14 +6,18 @@ use lib.IntN.{pos}
 use lib.Ieee.{Float, nan, fin, lt, eq, le, isNan}
 use lib.Ieee.Bits.{is-false}
 use lib.Ieee.Fits.{and-i, and-l, and-r}
+use Rattle.laws.specs.Bools.{true-is}
 use Rattle.float.specs.Within.{nought, one, within, number}
-use Rattle.float.specs.Clamped.{clamped, Clamp01Says}
+use Rattle.float.specs.Clamped.{clamped, Clamp01Says, Narrow01Says}
 use Rattle.float.specs.Narrowed.{narrowed}
-use Rattle.float.specs.OrderLaws.{le-is}
+use Rattle.float.specs.OrderLaws.{le-is, le-numbers}
 use Rattle.float.specs.WithinLaws.{within-number, narrowed-within}
 
 pub Clamp01Says-unique : (x r s : Float) → Clamp01Says x r → Clamp01Says x s → r ≡ s
 Clamp01Says-unique x r s p q = p ∙ sym q
+
+pub Narrow01Says-unique : (x r s : Float) → Narrow01Says x r → Narrow01Says x s → r ≡ s
+Narrow01Says-unique x r s p q = p ∙ sym q
 
 nought-number : T (number nought)
 unfolding isNan
@@ -54,6 +58,14 @@ clamped-same x h =
     let n = within-number x h in
     ap (λ (b : Bool). cond b nought (cond (lt one x) one x)) (is-false (lt x nought) (subst T (le-is nought x nought-number n) (and-l (le nought x) (le x one) h)))
     ∙ ap (λ (b : Bool). cond b one x) (is-false (lt one x) (subst T (le-is x one n one-number) (and-r (le nought x) (le x one) h)))
+
+-- at most 1 and not below 0
+pub clamped-upto : (x : Float) → le x one ≡ true → lt x nought ≡ false → clamped x ≡ x
+unfolding clamped
+clamped-upto x h k =
+    let t = true-is (le x one) h in
+    ap (λ (b : Bool). cond b nought (cond (lt one x) one x)) k
+    ∙ ap (λ (b : Bool). cond b one x) (is-false (lt one x) (subst T (le-is x one (le-numbers x one t .0) one-number) t))
 
 -- a channel of a score's colour
 pub clamped-narrowed-within : (x : Float) → T (number x) → T (within (narrowed (clamped x)))

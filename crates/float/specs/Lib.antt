@@ -3,6 +3,7 @@ pub mod Narrowed
 pub mod Within
 pub mod Clamped
 pub mod Patterns
+pub mod Shortened
 -- What follows.
 pub mod Numbers
 pub mod Rounding

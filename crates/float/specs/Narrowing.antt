@@ -1,19 +1,25 @@
 -- Laws: the binary32 pattern of a binary64 pattern's value, rounded.
 use mathlib.Core.Path.{_≡_, refl, sym, ap, _∙_, subst}
 use mathlib.Core.Logic.{_⊎_, inl, inr}
-use Prim.Native.Nat.{ℕ, zero, suc, _+_, _-_, _*_, _/_, _%_, _^_, _≤_, _<_, compare, Ordering, Ordering·lt, Ordering·eq, Ordering·gt}
-use native.Mathlib.Nat.{lt-trans, mod-lt, add-zero, div-eq-of-lt, mod-eq-of-lt, le-add-right, lt-irrefl, le-trans, le-of-eq, lt-of-lt-of-le, eq-or-lt-of-le, mul-assoc, mul-pos, mul-le-mul-right, div-lt-iff-lt-mul, le-div-iff-mul-le}
+use Prim.Native.Nat.{ℕ, zero, suc, _+_, _-_, _*_, _/_, _%_, _^_, _≤_, _<_, zero-le, compare, Ordering, Ordering·lt, Ordering·eq, Ordering·gt}
+use native.Mathlib.Nat.{zero-add, zero-mul, not-le-of-lt, lt-trans, mod-lt, add-zero, div-eq-of-lt, mod-eq-of-lt, le-add-right, lt-irrefl, le-trans, le-of-eq, lt-of-lt-of-le, eq-or-lt-of-le, mul-assoc, mul-pos, mul-le-mul-right, div-lt-iff-lt-mul, le-div-iff-mul-le}
 use native.Mathlib.Omega.{arith}
-use mathlib.Core.Bool.{Bool, true, false, not, cond}
-use lib.Dec.{T, leb, eqb, leb→le, nleb→lt, eqb→eq, not-T, lit<, lit≤}
+use native.Mathlib.Decide.{decLe}
+use mathlib.Core.Bool.{Bool, true, false, not, _&&_, _||_, cond}
+use lib.Dec.{T, leb, ltb, eqb, leb→le, nleb→lt, eqb→eq, not-T, lit<, lit≤}
+use borrow.Author.Tests.{ltb-true, ltb-false, leb-true, leb-false, lt-ltb, le-ltb, le-leb, lt-leb}
 use lib.Pow.{pow-add, pow-pos, pow-mono, shl-lt, mod-mod-pow}
-use lib.Ieee.{Float, nan, inf, binary32, binary64, size, nearest, odd, units, ofFields, ofBits, toBits}
+use lib.Ieee.{Float, nan, inf, fin, binary32, binary64, up, down, lt, fits, isNan, size, nearest, odd, units, ofFields, ofBits, toBits}
 use lib.Ieee.Digits.{size-le}
 use lib.Ieee.Fits.{core, round-is, nearest-le}
-use lib.Ieee.Bits.{cond-no}
+use lib.Ieee.Bits.{cond-no, ofBits-toBits}
 use lib.Ieee.Exact.{odd-sign}
 use lib.Ieee.Nearest.{closest, closest-same, nearest-ge}
+use Rattle.laws.specs.Bools.{and-left, and-right, or-left, or-right}
+use Rattle.laws.specs.Fit.{no-both}
+use Rattle.float.specs.Within.{nought, number}
 use Rattle.float.specs.Narrowed.{narrowed}
+use Rattle.float.specs.Shortened.{shortened}
 use Rattle.float.specs.Numbers.{above-nan}
 use Rattle.float.specs.NarrowLaws.{narrowed-value}
 use Rattle.float.specs.Rounding.{Cmp, cmp, closest-div, closest-more, size-gt, size-drop, units-under, units-over}
@@ -23,6 +29,21 @@ shifts q a b c e f h =
     ap (λ (x : ℕ). x * 2 ^ c) (mul-assoc q (2 ^ a) (2 ^ b))
     ∙ mul-assoc q (2 ^ a * 2 ^ b) (2 ^ c)
     ∙ ap (λ (x : ℕ). q * x) (ap (λ (x : ℕ). x * 2 ^ c) (sym (pow-add 2 a b)) ∙ sym (pow-add 2 (a + b) c) ∙ ap (λ (x : ℕ). 2 ^ x) h ∙ pow-add 2 e f)
+
+-- ---- two tests at once
+and-rest : (a c : Bool) → a && c ≡ false → a ≡ true → c ≡ false
+and-rest true c h e = h
+and-rest false c h e = no-both e refl
+
+or-rest : (a c : Bool) → a || c ≡ true → c ≡ false → a ≡ true
+or-rest true c h e = refl
+or-rest false c h e = no-both h e
+
+pub between : (a r c : ℕ) → leb a r && ltb r c ≡ true → (a ≤ r) × (r < c)
+between a r c h = (leb-true a r (and-left (leb a r) (ltb r c) h), ltb-true r c (and-right (leb a r) (ltb r c) h))
+
+pub not-outside : (a r c : ℕ) → ltb r a || leb c r ≡ false → (a ≤ r) × (r < c)
+not-outside a r c h = (ltb-false r a (or-left (ltb r a) (leb c r) h), leb-false c r (or-right (ltb r a) (leb c r) h))
 
 pub two-shifts : (q a b : ℕ) → q * 2 ^ a * 2 ^ b ≡ q * 2 ^ (a + b)
 two-shifts q a b = mul-assoc q (2 ^ a) (2 ^ b) ∙ ap (λ (x : ℕ). q * x) (sym (pow-add 2 a b))
@@ -153,9 +174,6 @@ closest-zero q d h =
     go Ordering·gt c = absurd (lt-irrefl d (lt-trans c h))
 
 -- ---- the code's sum: what is above 896 * 2 ^ 52 in the pattern, its last 29 digits rounded off
-abbrev pub shortened : ℕ → ℕ
-shortened u = (u + 0x0fff_ffff + u / 0x2000_0000 % 2) / 0x2000_0000
-
 shortened-is : (r : ℕ) → 0x3810_0000_0000_0000 ≤ r
     → (r / 0x10_0000_0000_0000 - 1 - 896) * 0x80_0000 + closest (0x10_0000_0000_0000 + r % 0x10_0000_0000_0000) 0x2000_0000 ≡ shortened (r - 0x3800_0000_0000_0000)
 shortened-is r h =
@@ -164,6 +182,17 @@ shortened-is r h =
     let e : i * 2 * 0x2000_0000 + q ≡ r - 0x3800_0000_0000_0000 = omega arith in
     let f : (r / 0x10_0000_0000_0000 - 1 - 896) * 0x80_0000 ≡ i * 2 = omega arith in
     ap (λ (z : ℕ). z + closest q 0x2000_0000) f ∙ sym (closest-more i q 0x2000_0000 (lit< tt)) ∙ ap (λ (z : ℕ). closest z 0x2000_0000) e ∙ closest-div (r - 0x3800_0000_0000_0000) 0x1000_0000 (lit< tt)
+
+-- from 2^128 - 2^103 on, a tie with the odd largest number, it is the infinity's or beyond
+shortened-over : (u : ℕ) → 0xfef_ffff_f000_0000 ≤ u → 0x7f80_0000 ≤ shortened u
+shortened-over u h = go (decLe 0x7f80_0000 (u / 0x2000_0000))
+  where
+    go : Dec (0x7f80_0000 ≤ u / 0x2000_0000) → 0x7f80_0000 ≤ shortened u
+    go (yes l) = omega arith
+    go (no l) =
+        let e : u / 0x2000_0000 ≡ 0x7f7f_ffff = omega arith in
+        let o : u / 0x2000_0000 % 2 ≡ 1 = ap (λ (z : ℕ). z % 2) e in
+        omega (arith, o)
 
 at-inf : (s : Bool) → toBits binary32 (narrowed (ofFields binary64 s 2047 0)) ≡ cond s 0x8000_0000 0 + 0x7f80_0000
 unfolding toBits narrowed
@@ -243,3 +272,39 @@ module _ (b : ℕ) (B : b < 0x1_0000_0000_0000_0000) where
 
   pub tiny-small : expo b < 897 → closest (0x10_0000_0000_0000 + digs b) (2 ^ (925 - expo b + 1)) ≤ 0x80_0000
   tiny-small h = subst (λ (z : ℕ). closest (0x10_0000_0000_0000 + digs b) (2 ^ z) ≤ 0x80_0000) (omega arith) (tiny-le (neg64 b) (digs b) 0 (digs-lt b) (897 - expo b) (omega arith))
+
+  -- what is beyond the usual range and is not below the normal one either: too small, or too large
+  pub at-far : leb 0x3810_0000_0000_0000 (body b) && ltb (body b) 0x47ef_ffff_f000_0000 ≡ false → ltb (body b) 0x3670_0000_0000_0000 || leb 0x3810_0000_0000_0000 (body b) ≡ true
+      → body b ≤ 0x7ff0_0000_0000_0000 → answer b ≡ sgn b + cond (ltb (body b) 0x3810_0000_0000_0000) 0 0x7f80_0000
+  at-far u o m = go (decLe 0x3810_0000_0000_0000 (body b))
+    where
+      go : Dec (0x3810_0000_0000_0000 ≤ body b) → answer b ≡ sgn b + cond (ltb (body b) 0x3810_0000_0000_0000) 0 0x7f80_0000
+      go (yes l) =
+          let k = ltb-false (body b) 0x47ef_ffff_f000_0000 (and-rest (leb 0x3810_0000_0000_0000 (body b)) (ltb (body b) 0x47ef_ffff_f000_0000) u (le-leb 0x3810_0000_0000_0000 (body b) l)) in
+          at-over l m (shortened-over (body b - 0x3800_0000_0000_0000) (omega arith)) ∙ ap (λ (t : Bool). sgn b + cond t 0 0x7f80_0000) (sym (le-ltb (body b) 0x3810_0000_0000_0000 l))
+      go (no l) =
+          let k = ltb-true (body b) 0x3670_0000_0000_0000 (or-rest (ltb (body b) 0x3670_0000_0000_0000) (leb 0x3810_0000_0000_0000 (body b)) o (lt-leb 0x3810_0000_0000_0000 (body b) (omega arith))) in
+          at-zero (omega arith) ∙ sym (add-zero (sgn b)) ∙ ap (λ (t : Bool). sgn b + cond t 0 0x7f80_0000) (sym (lt-ltb (body b) 0x3810_0000_0000_0000 (omega arith)))
+
+-- ---- a positive number, by its own pattern
+pub at-positive : (x : Float) → T (fits binary64 x) → toBits binary64 x < 0x1_0000_0000_0000_0000
+    → 0x3810_0000_0000_0000 ≤ toBits binary64 x → shortened (toBits binary64 x - 0x3800_0000_0000_0000) < 0x7f80_0000 → toBits binary64 x < 0x8000_0000_0000_0000
+    → shortened (toBits binary64 x - 0x3800_0000_0000_0000) ≡ toBits binary32 (narrowed x)
+at-positive x f B l h p =
+    let b = toBits binary64 x in
+    let e : body b ≡ b = mod-eq-of-lt p in
+    let z : sgn b ≡ 0 = ap (λ (k : ℕ). k * 0x8000_0000) (div-eq-of-lt p) in
+    sym
+    (ap (λ (v : Float). toBits binary32 (narrowed v)) (sym (ofBits-toBits binary64 x f))
+    ∙ at-under b B (le-trans l (le-of-eq (sym e))) (subst (λ (k : ℕ). shortened (k - 0x3800_0000_0000_0000) < 0x7f80_0000) (sym e) h)
+    ∙ ap (λ (k : ℕ). k + shortened (body b - 0x3800_0000_0000_0000)) z
+    ∙ zero-add (shortened (body b - 0x3800_0000_0000_0000))
+    ∙ ap (λ (k : ℕ). shortened (k - 0x3800_0000_0000_0000)) e)
+
+pub positive : (x : Float) → T (number x) → toBits binary64 x < 0x8000_0000_0000_0000 → lt x nought ≡ false
+unfolding toBits lt isNan
+positive nan n h = absurd n
+positive (inf true) n h = absurd (not-le-of-lt h (lit≤ tt))
+positive (inf false) n h = refl
+positive (fin true m e) n h = absurd (not-le-of-lt h (le-trans (le-add-right 0x8000_0000_0000_0000 _) (le-add-right _ _)))
+positive (fin false m e) n h = le-ltb (m * up e * 1) (0 * 1 * down e) (le-trans (le-of-eq (zero-mul (down e))) zero-le)

@@ -1,39 +1,55 @@
 // Floats: f64 to f32 and back, bit patterns for every float, the test for 0..1 and the clamp.
 ghost use mathlib.Core.Path.{_≡_};
-ghost use lib.Dec.{T};
-ghost use Prim.Native.Nat.{_+_, _^_, _<_, _≤_};
+ghost use lib.Dec.{T, ltb};
+ghost use mathlib.Core.Bool.{cond};
+ghost use Prim.Native.Nat.{_+_, _-_, _^_, _<_, _≤_};
 ghost use lib.Ieee.Nearest.{closest};
 ghost use Rattle.float.specs.Narrowed.{NarrowSays, NarrowBitsSays};
 ghost use Rattle.float.specs.Within.{number, WithinSays, AllWithinSays, AllNumbersSays};
-ghost use Rattle.float.specs.Clamped.{Clamp01Says};
+ghost use Rattle.float.specs.Clamped.{Clamp01Says, Narrow01Says};
+ghost use Rattle.float.specs.Shortened.{shortened};
 ghost use Rattle.float.specs.Patterns.{Bits32Says, Bits64Says, OfBits32Says, OfBits64Says, WidenSays, WidenNumberSays};
 
 // The pattern of an f32 from that of an f64, rounded to the nearest, ties to even. A NaN's gives 7FC00000.
 // Divisions by constants, not shifts: the compiler makes shifts of them, and the prover's arithmetic reads them.
+// Usual numbers pass one test: from 2^-126, f32's normal range, up to 2^128 - 2^103, where infinity begins.
 pub fn narrow_bits(b: u64) -> u32
     ensures { λ r. ⌜ NarrowBitsSays b r ⌝ }
 {
     let sign = (b / 0x8000_0000_0000_0000) * 0x8000_0000;
     let r = b % 0x8000_0000_0000_0000;
-    if 0x3810_0000_0000_0000 <= r {
+    if (0x3810_0000_0000_0000 <= r) & (r < 0x47ef_ffff_f000_0000) {
+        return (sign + shorten(r)) as u32;
+    }
+    if (r < 0x3670_0000_0000_0000) | (0x3810_0000_0000_0000 <= r) {
         if 0x7ff0_0000_0000_0000 < r {
             return 0x7fc0_0000;
         }
-        // 896 off the exponent, and the last 29 digits rounded off: a carry goes into the exponent
-        let u = r - 0x3800_0000_0000_0000;
-        let a = (u + 0x0fff_ffff + u / 0x2000_0000 % 2) / 0x2000_0000;
-        if a < 0x7f80_0000 {
-            return (sign + a) as u32;
-        }
-        return (sign + 0x7f80_0000) as u32;
+        return (sign + far(r)) as u32;
     }
     // an f32 below its normal range: the digits, with the leading one, shifted
-    let x = r / 0x10_0000_0000_0000;
-    if x < 871 {
-        return sign as u32;
-    }
     let q = 0x10_0000_0000_0000 + r % 0x10_0000_0000_0000;
-    (sign + closest_shift(q, 925 - x)) as u32
+    (sign + closest_shift(q, 925 - r / 0x10_0000_0000_0000)) as u32
+}
+
+// 896 off the exponent, and the last 29 digits rounded off: a carry goes into the exponent.
+fn shorten(r: u64) -> u64
+    requires { ⌜ (0x3810_0000_0000_0000 ≤ r) × (r < 0x47ef_ffff_f000_0000) ⌝ }
+    ensures { λ s. ⌜ (s ≡ shortened (r - 0x3800_0000_0000_0000)) × (s < 0x7f80_0000) ⌝ }
+{
+    let u = r - 0x3800_0000_0000_0000;
+    (u + 0x0fff_ffff + u / 0x2000_0000 % 2) / 0x2000_0000
+}
+
+// Too small gives 0, too large infinity. A choice, not a way out: the one is as likely as the other.
+fn far(r: u64) -> u64
+    ensures { λ s. ⌜ (s ≡ cond (ltb r 0x3810_0000_0000_0000) 0 0x7f80_0000) × (s ≤ 0x7f80_0000) ⌝ }
+{
+    if r < 0x3810_0000_0000_0000 {
+        0
+    } else {
+        0x7f80_0000
+    }
 }
 
 // q / 2^(k + 1), rounded to the nearest whole number, a tie to the even one.
@@ -115,6 +131,23 @@ pub fn clamp01(x: f64) -> f64
         return 1.0;
     }
     x
+}
+
+// q clamped to 0..1, then narrowed. From 2^-126 up to 1 there is no sign, no overflow and no subnormal to look for.
+pub fn narrow01(q: f64) -> f32
+    ensures { λ r. ⌜ Narrow01Says q r ⌝ }
+{
+    if q <= 1.0 {
+        let b = f64::to_bits(q);
+        if (0x3810_0000_0000_0000 <= b) & (b < 0x47ef_ffff_f000_0000) {
+            return f32::from_bits(shorten(b) as u32);
+        }
+        if q < 0.0 {
+            return 0.0;
+        }
+        return narrow(q);
+    }
+    narrow(clamp01(q))
 }
 
 // The pattern of x; 7FC00000 for a NaN.

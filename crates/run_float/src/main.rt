@@ -30,6 +30,8 @@ fn clamping(b: u64) {
     bits(b);
     show::text(b": ");
     bits(float::bits64(float::clamp01(float::of_bits64(b))));
+    show::text(b", narrowed ");
+    show::hex(float::bits32(float::narrow01(float::of_bits64(b))) as u64, 8);
     show::text(b"\n");
 }
 
@@ -79,7 +81,7 @@ fn singles() {
 }
 
 fn clamps() {
-    // -0.0, the smallest below 0, 0.5, 1, 1.5, infinities, a NaN
+    // -0.0, the smallest below 0, 0.5, 1, 1.5, infinities, a NaN; 2^-149 and 2^-126
     clamping(0x8000_0000_0000_0000);
     clamping(0x8000_0000_0000_0001);
     clamping(0x3fe0_0000_0000_0000);
@@ -88,6 +90,8 @@ fn clamps() {
     clamping(0x7ff0_0000_0000_0000);
     clamping(0xfff0_0000_0000_0000);
     clamping(0xfff8_0000_0000_0001);
+    clamping(0x36a0_0000_0000_0000);
+    clamping(0x3810_0000_0000_0000);
 }
 
 fn all() {

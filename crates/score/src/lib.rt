@@ -55,9 +55,9 @@ fn colour(t: f64, c: f64, m: f64, denom: f64) -> f32
     ensures { λ r. ⌜ r ≡ colourOf t c m denom ⌝ }
 {
     if denom > 0.0 {
-        return float::narrow(float::clamp01((t - m * c) / denom));
+        return float::narrow01((t - m * c) / denom);
     }
-    float::narrow(float::clamp01(0.0))
+    0.0
 }
 
 fn error_after(tt: f64, tc: f64, cc: f64, t: f64, c: f64, a: f64, m: f64, p: f64, n: f64) -> f64

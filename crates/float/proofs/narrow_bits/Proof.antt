@@ -1,26 +1,22 @@
--- Each way out is one case of the laws in `Narrowing`: NaN, normal, infinity, zero, below the normal range.
+-- Each way out is one case of the laws in `Narrowing`: normal, NaN, zero or infinity, below the normal range.
 use borrow.Author.Needs.{needs}
-use mathlib.Core.Path.{sym, ap, _∙_}
-use Prim.Native.Nat.{ℕ, _+_}
+use mathlib.Core.Path.{_≡_, sym, ap, _∙_, subst}
+use Prim.Native.Nat.{ℕ, _+_, _≤_, _<_}
+use mathlib.Core.Bool.{false, _||_}
+use lib.Dec.{ltb, leb}
 use native.Mathlib.Omega.{arith}
-use Rattle.float.specs.Narrowing.{sgn, at-nan, at-under, at-over, at-tiny, at-zero, tiny-small}
+use Rattle.float.specs.Narrowing.{sgn, body, between, not-outside, at-nan, at-under, at-far, at-tiny, tiny-small}
 use Rattle.float.proofs.narrow_bits.Statement.{statement}
 use Rattle.float.proofs.narrow_bits.Tie as tie
+
+subnormal : (b : ℕ) → ltb (body b) 0x3670_0000_0000_0000 || leb 0x3810_0000_0000_0000 (body b) ≡ false → (0x3670_0000_0000_0000 ≤ body b) × (body b < 0x3810_0000_0000_0000)
+subnormal b h = not-outside 0x3670_0000_0000_0000 (body b) 0x3810_0000_0000_0000 h
 
 mul-sign : tie.Need-mul-sign
 mul-sign c = search needs
 
-returns : tie.Need-returns
-returns c = sym (at-nan (c .before .before .args .b) (c .if2 .taken))
-
-sub-u : tie.Need-sub-u
-sub-u c = search needs
-
-add-a : tie.Need-add-a
-add-a c = search needs
-
-add-a-2 : tie.Need-add-a-2
-add-a-2 c = search needs
+shorten-requires : tie.Need-shorten-requires
+shorten-requires c κs = between _ _ _ (c .if1 .taken)
 
 add-result : tie.Need-add-result
 add-result c = search needs
@@ -28,64 +24,75 @@ add-result c = search needs
 cast-result : tie.Need-cast-result
 cast-result c = search needs
 
+returns : tie.Need-returns
+returns c =
+    let i = c .before .before in
+    let e = c .shorten .ensures in
+    ap (λ (z : ℕ). sgn (i .args .b) + z) (e .0)
+    ∙ sym (at-under (i .args .b) (i .fits .b .fits) (between _ _ _ (c .before .if1 .taken) .0) (subst (λ (z : ℕ). z < 0x7f80_0000) (e .0) (e .1)))
+
 returns-2 : tie.Need-returns-2
-returns-2 c = let i = c .before .before .before in sym (at-under (i .args .b) (i .fits .b .fits) (c .before .before .if1 .taken) (c .if3 .taken))
+returns-2 c = sym (at-nan (c .before .before .before .args .b) (c .if3 .taken))
+
+far-requires : tie.Need-far-requires
+far-requires c κs = search needs
 
 add-result-2 : tie.Need-add-result-2
-add-result-2 c = search needs
+add-result-2 c = omega (arith, c .far .ensures .1)
 
 cast-result-2 : tie.Need-cast-result-2
-cast-result-2 c = search needs
+cast-result-2 c = omega (arith, c .far .ensures .1)
 
 returns-3 : tie.Need-returns-3
-returns-3 c = let i = c .before .before .before in sym (at-over (i .args .b) (i .fits .b .fits) (c .before .before .if1 .taken) (c .before .if2 .left) (c .if3 .left))
-
-cast-result-3 : tie.Need-cast-result-3
-cast-result-3 c = search needs
-
-returns-4 : tie.Need-returns-4
-returns-4 c = let i = c .before .before in sym (at-zero (i .args .b) (i .fits .b .fits) (c .if4 .taken))
+returns-3 c =
+    let i = c .before .before .before .before in
+    ap (λ (z : ℕ). sgn (i .args .b) + z) (c .far .ensures .0)
+    ∙ sym (at-far (i .args .b) (i .fits .b .fits) (c .before .before .before .if1 .left) (c .before .before .if2 .taken) (c .before .if3 .left))
 
 add-q : tie.Need-add-q
 add-q c = search needs
 
 sub-closest-shift : tie.Need-sub-closest-shift
-sub-closest-shift c = search needs
+sub-closest-shift c = let w = subnormal (c .before .before .args .b) (c .if2 .left) in omega (arith, w .0, w .1)
 
 closest-shift-requires : tie.Need-closest-shift-requires
-closest-shift-requires c κs = search needs
+closest-shift-requires c κs = let w = subnormal (c .before .before .args .b) (c .if2 .left) in (omega arith, omega (arith, w .0, w .1))
 
 add-result-3 : tie.Need-add-result-3
-add-result-3 c = let i = c .before .before .before in omega (arith, c .closest-shift .ensures, tiny-small (i .args .b) (i .fits .b .fits) (omega arith))
-
-cast-result-4 : tie.Need-cast-result-4
-cast-result-4 c = let i = c .before .before .before in omega (arith, c .closest-shift .ensures, tiny-small (i .args .b) (i .fits .b .fits) (omega arith))
-
-returns-5 : tie.Need-returns-5
-returns-5 c =
+add-result-3 c =
     let i = c .before .before .before in
-    ap (λ (z : ℕ). sgn (i .args .b) + z) (c .closest-shift .ensures) ∙ sym (at-tiny (i .args .b) (i .fits .b .fits) (c .before .if4 .left) (omega arith))
+    let w = subnormal (i .args .b) (c .before .if2 .left) in
+    omega (arith, c .closest-shift .ensures, tiny-small (i .args .b) (i .fits .b .fits) (omega (arith, w .1)))
+
+cast-result-3 : tie.Need-cast-result-3
+cast-result-3 c =
+    let i = c .before .before .before in
+    let w = subnormal (i .args .b) (c .before .if2 .left) in
+    omega (arith, c .closest-shift .ensures, tiny-small (i .args .b) (i .fits .b .fits) (omega (arith, w .1)))
+
+returns-4 : tie.Need-returns-4
+returns-4 c =
+    let i = c .before .before .before in
+    let w = subnormal (i .args .b) (c .before .if2 .left) in
+    ap (λ (z : ℕ). sgn (i .args .b) + z) (c .closest-shift .ensures) ∙ sym (at-tiny (i .args .b) (i .fits .b .fits) (omega (arith, w .0)) (omega (arith, w .1)))
 
 pub narrow-bits-spec : {M : Type 1} → statement M
 narrow-bits-spec =
     tie.close
     (tie.spec
     mul-sign
-    returns
-    sub-u
-    add-a
-    add-a-2
+    shorten-requires
     add-result
     cast-result
+    returns
     returns-2
+    far-requires
     add-result-2
     cast-result-2
     returns-3
-    cast-result-3
-    returns-4
     add-q
     sub-closest-shift
     closest-shift-requires
     add-result-3
-    cast-result-4
-    returns-5)
+    cast-result-3
+    returns-4)
