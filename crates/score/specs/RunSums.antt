@@ -3,9 +3,10 @@ use mathlib.Core.Bool.{cond}
 use mathlib.Core.List.{List}
 use Prim.Native.Nat.{ℕ, _+_, _-_, _*_, _≤_, _<_}
 use Rattle.laws.specs.RowFold.{rowsFrom}
-use lib.Dec.{ltb}
+use lib.Dec.{T, ltb}
 use lib.ListN.{getD}
-use lib.Ieee.{Float}
+use lib.Ieee.{Float, nan}
+use Rattle.float.specs.Within.{number}
 use Rattle.sums.specs.declared.ShapeSums.{ShapeSums}
 use Rattle.sums.specs.Sums.{noSums, plus, minus}
 use Rattle.table.specs.Layout.{placeOf}
@@ -39,3 +40,7 @@ pointsAdded w target canvas runs top k =
 abbrev pub RunsFit : List ℕ → ℕ → ℕ → ℕ → Type 0
 RunsFit runs w top bottom =
     (y : ℕ) → top ≤ y → y < bottom → (runLeft runs y ≤ runRight runs y) × (runRight runs y ≤ w)
+
+-- none of the values a <= i < e is a NaN
+abbrev pub NumbersIn : List Float → ℕ → ℕ → Type 0
+NumbersIn xs a e = (i : ℕ) → a ≤ i → i < e → T (number (getD xs i nan))

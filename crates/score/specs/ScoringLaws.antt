@@ -9,8 +9,12 @@ use native.Mathlib.Decide.{decLe}
 use borrow.Author.Tests.{lt-ltb, le-ltb, ltb-false}
 use Rattle.laws.specs.Bools.{or-left, or-right}
 use Rattle.score.specs.declared.Request.the-variants.{Levels}
-use lib.Dec.{ltb}
-use lib.Ieee.{Float}
+use lib.Dec.{T, ltb}
+use lib.Ieee.{Float, nan}
+use lib.ListN.{length, getD, take, drop, length-drop}
+use lib.Seq.{getD-take, getD-drop, length-take-le}
+use Rattle.laws.specs.EveryLaws.{every-each}
+use Rattle.float.specs.Within.{number, allNumbers}
 use Rattle.laws.specs.Ends.{Ends, none, ends, endsOf, leftOf, rightOf}
 use Rattle.laws.specs.EndsLaws.{Ended, ended}
 use Rattle.laws.specs.PixelSums.{addSpan, pointRow}
@@ -30,7 +34,7 @@ use Rattle.table.specs.Layout.{placeOf}
 use Rattle.score.specs.declared.Scored.{Scored}
 use Rattle.score.specs.declared.Collected.{Collected}
 use Rattle.score.specs.declared.Request.{Request}
-use Rattle.score.specs.RunSums.{runAdded, runLeft, runRight, runsAdded, pixelsAdded, pointsAdded, RunsFit}
+use Rattle.score.specs.RunSums.{runAdded, runLeft, runRight, runsAdded, pixelsAdded, pointsAdded, RunsFit, NumbersIn}
 use Rattle.score.specs.Scoring.{spanSums, pointSums, pixelAt, badCount, AlphaSweepSays, CollectSpanSumsSays, CollectPointSumsSays, SpanScoreSays, PointScoreSays, CirclePointScoreSays, TrianglePointScoreSays, CollectCircleSumsSays, CollectTriangleSumsSays}
 
 pub AlphaSweepSays-unique : (s : ShapeSums) (levels : List Float) (n : ℕ) (r q : Scored) → AlphaSweepSays s levels n r → AlphaSweepSays s levels n q → r ≡ q
@@ -129,6 +133,14 @@ module _ (w : ℕ) (target canvas : List Float) where
         ≡ pointsAdded w target canvas runs top (y + 1 - top)
     unfolding pointsAdded
     points-more y l = rows-more (λ z. pixelsAdded w target canvas z (runLeft runs z) (runRight runs z - runLeft runs z)) top y noSums l
+
+-- a part without a NaN
+pub numbers-part : (xs : List Float) (a e : ℕ) → e ≤ length xs → T (allNumbers (take (e - a) (drop a xs))) → NumbersIn xs a e
+numbers-part xs a e l h i g k =
+    let n : i - a < length (take (e - a) (drop a xs)) = omega (arith, length-take-le (e - a) (drop a xs) (omega (arith, length-drop a xs))) in
+    let v = every-each number (take (e - a) (drop a xs)) (i - a) nan h n in
+    let s : a + (i - a) ≡ i = omega arith in
+    subst (λ (x : Float). T (number x)) (getD-take (e - a) (drop a xs) (i - a) nan (omega arith) ∙ getD-drop a xs (i - a) nan ∙ ap (λ (j : ℕ). getD xs j nan) s) v
 
 -- over the rows of the reach they are the sums of the whole picture
 module _ (kind : Kind) (w h : ℕ) (room : h ≤ 256) where

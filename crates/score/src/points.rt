@@ -1,18 +1,36 @@
 // Sums of a shape pixel by pixel, in row order, from the two pictures themselves.
 ghost use mathlib.Core.Path.{_≡_};
-ghost use mathlib.Core.Bool.{false};
+ghost use mathlib.Core.Bool.{true, false};
 ghost use Prim.Native.Nat.{_+_, _-_, _*_, _≤_, _<_, _^_};
 ghost use lib.ListN.{length};
 ghost use Rattle.refusal.specs.Refusals.{Sized};
 ghost use Rattle.cover.specs.Cover.{badPlaces};
 ghost use Rattle.sums.specs.Sums.{plus};
-ghost use Rattle.score.specs.RunSums.{pixelsAdded, pointsAdded, RunsFit};
+ghost use Rattle.score.specs.RunSums.{pixelsAdded, pointsAdded, RunsFit, NumbersIn};
 ghost use Rattle.score.specs.Scoring.{pixelFrom, pointSums};
 use cover::Kind;
 use sums::ShapeSums;
 
-// The pixel whose channels begin at place `at`.
-fn push_pixel(target: &[f32], canvas: &[f32], at: usize, s: ShapeSums) -> ShapeSums
+// None of the values a <= i < e is a NaN.
+fn numbers_in(xs: &[f32], a: usize, e: usize) -> bool
+    requires { ⌜ (a ≤ e) × (e ≤ length (now xs)) ⌝ }
+    ensures { λ r. ⌜ (r ≡ true → NumbersIn (now (xs .entry)) a e) ⌝ }
+{
+    float::all_numbers(&xs[a..e])
+}
+
+fn both_numbers(target: &[f32], canvas: &[f32], a: usize, e: usize) -> bool
+    requires { ⌜ (a ≤ e) × (e ≤ length (now target)) × (e ≤ length (now canvas)) ⌝ }
+    ensures { λ r. ⌜ (r ≡ true → NumbersIn (now (target .entry)) a e × NumbersIn (now (canvas .entry)) a e) ⌝ }
+{
+    if numbers_in(target, a, e) {
+        return numbers_in(canvas, a, e);
+    }
+    false
+}
+
+// The pixel whose channels begin at place `at`, of any bits.
+fn push_any(target: &[f32], canvas: &[f32], at: usize, s: ShapeSums) -> ShapeSums
     requires { ⌜ (at + 3 ≤ length (now target)) × (at + 3 ≤ length (now canvas)) × (s .count + 1 < 2 ^ 32) ⌝ }
     ensures { λ r. ⌜ r ≡ plus s (pixelFrom (now (target .entry)) (now (canvas .entry)) at) ⌝ }
 {
@@ -26,7 +44,34 @@ fn push_pixel(target: &[f32], canvas: &[f32], at: usize, s: ShapeSums) -> ShapeS
     )
 }
 
-// Pixels left <= x < right of row y.
+// The same where none is a NaN: widened without a test.
+fn push_numbers(target: &[f32], canvas: &[f32], at: usize, s: ShapeSums) -> ShapeSums
+    requires { ⌜ (at + 3 ≤ length (now target)) × (at + 3 ≤ length (now canvas)) × (s .count + 1 < 2 ^ 32) ⌝ }
+    requires { ⌜ NumbersIn (now target) at (at + 3) × NumbersIn (now canvas) at (at + 3) ⌝ }
+    ensures { λ r. ⌜ r ≡ plus s (pixelFrom (now (target .entry)) (now (canvas .entry)) at) ⌝ }
+{
+    s.push_wide(
+        float::widen_number(target[at]),
+        float::widen_number(target[at + 1]),
+        float::widen_number(target[at + 2]),
+        float::widen_number(canvas[at]),
+        float::widen_number(canvas[at + 1]),
+        float::widen_number(canvas[at + 2]),
+    )
+}
+
+fn push_pixel(target: &[f32], canvas: &[f32], at: usize, numbers: bool, s: ShapeSums) -> ShapeSums
+    requires { ⌜ (at + 3 ≤ length (now target)) × (at + 3 ≤ length (now canvas)) × (s .count + 1 < 2 ^ 32) ⌝ }
+    requires { ⌜ (numbers ≡ true → NumbersIn (now target) at (at + 3) × NumbersIn (now canvas) at (at + 3)) ⌝ }
+    ensures { λ r. ⌜ r ≡ plus s (pixelFrom (now (target .entry)) (now (canvas .entry)) at) ⌝ }
+{
+    if numbers {
+        return push_numbers(target, canvas, at, s);
+    }
+    push_any(target, canvas, at, s)
+}
+
+// Pixels left <= x < right of row y. Looking for a NaN in all of them first is cheaper than in each.
 fn push_row(
     target: &[f32],
     canvas: &[f32],
@@ -40,10 +85,11 @@ fn push_row(
     requires lent { ⌜ (y * w * 3 + w * 3 ≤ length (now target)) × (y * w * 3 + w * 3 ≤ length (now canvas)) ⌝ }
     ensures { λ r. ⌜ r ≡ pixelsAdded w (now (target .entry)) (now (canvas .entry)) y left (right - left) sums ⌝ }
 {
+    let numbers = both_numbers(target, canvas, (y * w + left) * 3, (y * w + right) * 3);
     let mut s = sums;
     let mut x = left;
     while x < right {
-        s = push_pixel(target, canvas, (y * w + x) * 3, s);
+        s = push_pixel(target, canvas, (y * w + x) * 3, numbers, s);
         x += 1;
     }
     s

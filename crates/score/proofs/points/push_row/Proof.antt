@@ -13,15 +13,44 @@ use Rattle.score.proofs.points.push_row.Statement.{statement}
 use Rattle.score.proofs.points.push_row.Tie as tie
 
 abbrev Inv-loop : tie.InvT-loop
-Inv-loop target canvas w y left right s₀ x₀ s x =
+Inv-loop target canvas w y left right numbers s₀ x₀ s x =
     (left ≤ x) × (x ≤ right) × (s .count ≡ s₀ .count + (x - left)) × (s ≡ pixelsAdded w target canvas y left (x - left) s₀)
 
 abbrev μ-loop : tie.MeasureT-loop
-μ-loop target canvas w y left right s₀ x₀ s x = right - x
+μ-loop target canvas w y left right numbers s₀ x₀ s x = right - x
+
+small : (g : tie.Start Inv-loop μ-loop) → g .args .y * g .args .w ≤ 65536
+small g =
+    let p : g .args .y ≤ 256 = omega (arith, g .pre .0 .1) in
+    let m : g .args .y * g .args .w ≤ 256 * 256 = mul-le-mul p (g .pre .0 .0) in
+    omega arith
+
+mul-both-numbers : tie.Need-mul-both-numbers Inv-loop μ-loop
+mul-both-numbers c = omega (arith, small (c .before .before))
+
+add-both-numbers : tie.Need-add-both-numbers Inv-loop μ-loop
+add-both-numbers c = let g = c .before .before in omega (arith, small g, g .pre .0 .0, g .pre .0 .2, g .pre .0 .3)
+
+mul-both-numbers-2 : tie.Need-mul-both-numbers-2 Inv-loop μ-loop
+mul-both-numbers-2 c = let g = c .before .before in omega (arith, small g, g .pre .0 .0, g .pre .0 .2, g .pre .0 .3)
+
+mul-both-numbers-3 : tie.Need-mul-both-numbers-3 Inv-loop μ-loop
+mul-both-numbers-3 c = omega (arith, small (c .before .before))
+
+add-both-numbers-2 : tie.Need-add-both-numbers-2 Inv-loop μ-loop
+add-both-numbers-2 c = let g = c .before .before in omega (arith, small g, g .pre .0 .0, g .pre .0 .3)
+
+mul-both-numbers-4 : tie.Need-mul-both-numbers-4 Inv-loop μ-loop
+mul-both-numbers-4 c = let g = c .before .before in omega (arith, small g, g .pre .0 .0, g .pre .0 .3)
+
+both-numbers-requires : tie.Need-both-numbers-requires Inv-loop μ-loop
+both-numbers-requires c κs =
+    let g = c .before .before in
+    (omega (arith, g .pre .0 .2), omega (arith, g .pre .0 .3, g .pre .1 .0), omega (arith, g .pre .0 .3, g .pre .1 .1))
 
 loop-holds : tie.Need-loop-holds Inv-loop μ-loop
 loop-holds c =
-    let g = c .before .before in
+    let g = c .before .before .before in
     let a = g .args in
     let z : a .left - a .left ≡ 0 = omega arith in (
       omega arith,
@@ -32,40 +61,43 @@ loop-holds c =
     )
 
 module _ (c : tie.In-loop Inv-loop μ-loop) where
-  place : c .before .loop .x < c .before .before .before .before .args .w
-  place = omega (arith, c .before .before .before .before .pre .0 .3, c .loop-test .taken)
+  abbrev start : tie.Start Inv-loop μ-loop
+  start = c .before .before .before .before .before
+
+  place : c .before .loop .x < start .args .w
+  place = omega (arith, start .pre .0 .3, c .loop-test .taken)
 
   -- the pixel's three channels lie in the row
-  inside : (c .before .before .before .before .args .y * c .before .before .before .before .args .w + c .before .loop .x) * 3 + 3
-      ≤ c .before .before .before .before .args .y * c .before .before .before .before .args .w * 3 + c .before .before .before .before .args .w * 3
+  inside : (start .args .y * start .args .w + c .before .loop .x) * 3 + 3 ≤ start .args .y * start .args .w * 3 + start .args .w * 3
   inside = omega (arith, place)
 
-  small : c .before .before .before .before .args .y * c .before .before .before .before .args .w ≤ 65536
-  small =
-      let g = c .before .before .before .before in
-      let p : g .args .y ≤ 256 = omega (arith, g .pre .0 .1) in
-      let m : g .args .y * g .args .w ≤ 256 * 256 = mul-le-mul p (g .pre .0 .0) in
-      omega arith
-
 mul-push-pixel : tie.Need-mul-push-pixel Inv-loop μ-loop
-mul-push-pixel c = omega (arith, small c)
+mul-push-pixel c = omega (arith, small (start c))
 
 add-push-pixel : tie.Need-add-push-pixel Inv-loop μ-loop
-add-push-pixel c = omega (arith, small c, place c, c .before .before .before .before .pre .0 .0)
+add-push-pixel c = omega (arith, small (start c), place c, start c .pre .0 .0)
 
 mul-push-pixel-2 : tie.Need-mul-push-pixel-2 Inv-loop μ-loop
-mul-push-pixel-2 c = omega (arith, small c, place c, c .before .before .before .before .pre .0 .0)
+mul-push-pixel-2 c = omega (arith, small (start c), place c, start c .pre .0 .0)
 
 push-pixel-requires : tie.Need-push-pixel-requires Inv-loop μ-loop
 push-pixel-requires c κs =
-    let g = c .before .before .before .before in (
-      omega (arith, inside c, g .pre .1 .0),
-      omega (arith, inside c, g .pre .1 .1),
-      omega (arith, c .before .loop .inv .2, g .pre .0 .4, c .loop-test .taken, c .before .loop .inv .0),
+    let g = start c in
+    let l = c .before .loop in (
+      (
+        omega (arith, inside c, g .pre .1 .0),
+        omega (arith, inside c, g .pre .1 .1),
+        omega (arith, l .inv .2, g .pre .0 .4, c .loop-test .taken, l .inv .0),
+      ),
+      (λ h.
+          let n = c .before .before .both-numbers .ensures h in (
+            (λ i a b. n .0 i (omega (arith, l .inv .0)) (omega (arith, c .loop-test .taken))),
+            (λ i a b. n .1 i (omega (arith, l .inv .0)) (omega (arith, c .loop-test .taken))),
+          )),
     )
 
 add-x : tie.Need-add-x Inv-loop μ-loop
-add-x c = omega (arith, place (c .before), c .before .before .before .before .before .pre .0 .0)
+add-x c = omega (arith, place (c .before), start (c .before) .pre .0 .0)
 
 loop-less : tie.Need-loop-less Inv-loop μ-loop
 loop-less c = omega (arith, c .before .loop-test .taken)
@@ -75,7 +107,7 @@ unfolding plus pixelSums
 loop-again c =
     let t = c .before in
     let l = t .before .loop in
-    let a = t .before .before .before .before .args in
+    let a = t .before .before .before .before .before .args in
     let r = c .push-pixel .ensures in (
       omega (arith, l .inv .0),
       omega (arith, t .loop-test .taken),
@@ -87,7 +119,7 @@ loop-again c =
 returns : tie.Need-returns Inv-loop μ-loop
 returns c =
     let l = c .before .loop in
-    let a = c .before .before .before .before .args in
+    let a = c .before .before .before .before .before .args in
     let e : l .x ≡ a .right = omega (arith, l .inv .1, c .loop-test .left) in
     l .inv .3 ∙ ap (λ (x : ℕ). pixelsAdded (a .w) (a .target .now) (a .canvas .now) (a .y) (a .left) (x - a .left) (a .sums)) e
 
@@ -97,6 +129,13 @@ push-row-spec =
     (tie.spec
     Inv-loop
     μ-loop
+    mul-both-numbers
+    add-both-numbers
+    mul-both-numbers-2
+    mul-both-numbers-3
+    add-both-numbers-2
+    mul-both-numbers-4
+    both-numbers-requires
     loop-holds
     mul-push-pixel
     add-push-pixel
