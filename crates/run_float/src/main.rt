@@ -31,7 +31,10 @@ fn clamping(b: u64) {
     show::text(b": ");
     bits(float::bits64(float::clamp01(float::of_bits64(b))));
     show::text(b", narrowed ");
-    show::hex(float::bits32(float::narrow01(float::of_bits64(b))) as u64, 8);
+    show::hex(
+        float::bits32(float::narrow01(float::of_bits64(b))) as u64,
+        8,
+    );
     show::text(b"\n");
 }
 
