@@ -3,15 +3,16 @@ use mathlib.Core.Path.{_≡_, refl, sym, ap, _∙_, subst}
 use mathlib.Core.Bool.{Bool, true, false, not, cond}
 use lib.Dec.{T}
 use lib.IntN.{pos}
-use lib.Ieee.{Float, nan, fin, lt, eq, le, isNan}
+use lib.Ieee.{Float, nan, inf, fin, binary32, lt, eq, le, isNan}
 use lib.Ieee.Bits.{is-false}
 use lib.Ieee.Fits.{and-i, and-l, and-r}
 use Rattle.laws.specs.Bools.{true-is}
+use Rattle.laws.specs.Fit.{no-both}
 use Rattle.float.specs.Within.{nought, one, within, number}
 use Rattle.float.specs.Clamped.{clamped, Clamp01Says, Narrow01Says}
 use Rattle.float.specs.Narrowed.{narrowed}
-use Rattle.float.specs.OrderLaws.{le-is, le-numbers}
-use Rattle.float.specs.WithinLaws.{within-number, narrowed-within}
+use Rattle.float.specs.OrderLaws.{le-is, le-numbers, lt-asym, lt-trans}
+use Rattle.float.specs.WithinLaws.{within-number, one-is, narrowed-within}
 
 pub Clamp01Says-unique : (x r s : Float) → Clamp01Says x r → Clamp01Says x s → r ≡ s
 Clamp01Says-unique x r s p q = p ∙ sym q
@@ -26,6 +27,10 @@ nought-number = tt
 one-number : T (number one)
 unfolding isNan
 one-number = tt
+
+nought-one : T (lt nought one)
+unfolding lt
+nought-one = tt
 
 nought-within : T (within nought)
 unfolding within le lt eq
@@ -66,6 +71,24 @@ clamped-upto x h k =
     let t = true-is (le x one) h in
     ap (λ (b : Bool). cond b nought (cond (lt one x) one x)) k
     ∙ ap (λ (b : Bool). cond b one x) (is-false (lt one x) (subst T (le-is x one (le-numbers x one t .0) one-number) t))
+
+pub clamped-above : (x : Float) → lt one x ≡ true → clamped x ≡ one
+unfolding clamped
+clamped-above x h =
+    let t = true-is (lt one x) h in
+    ap (λ (b : Bool). cond b nought (cond (lt one x) one x)) (is-false (lt x nought) (lt-asym nought x (lt-trans nought one x nought-one t)))
+    ∙ ap (λ (b : Bool). cond b one x) h
+
+-- neither at most 1 nor above it
+pub beside-one : (x : Float) → le x one ≡ false → lt one x ≡ false → x ≡ nan
+unfolding isNan
+beside-one nan h k = refl
+beside-one (inf s) h k = no-both (le-is (inf s) one tt one-number ∙ ap not k) h
+beside-one (fin s m e) h k = no-both (le-is (fin s m e) one tt one-number ∙ ap not k) h
+
+pub narrowed-one : narrowed one ≡ one
+unfolding narrowed
+narrowed-one = one-is binary32
 
 -- a channel of a score's colour
 pub clamped-narrowed-within : (x : Float) → T (number x) → T (within (narrowed (clamped x)))

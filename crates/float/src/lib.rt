@@ -147,7 +147,10 @@ pub fn narrow01(q: f64) -> f32
         }
         return narrow(q);
     }
-    narrow(clamp01(q))
+    if q > 1.0 {
+        return 1.0;
+    }
+    0.0 / 0.0
 }
 
 // The pattern of x; 7FC00000 for a NaN.

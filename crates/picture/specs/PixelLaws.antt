@@ -1,21 +1,24 @@
 -- Laws: the steps of fill, mean and total; the difference of two values within 0..1 is a number; a filled picture, a mean; each promise has one answer.
-use mathlib.Core.Path.{_≡_, refl, sym, ap, _∙_}
+use mathlib.Core.Path.{_≡_, refl, sym, ap, _∙_, subst}
+use mathlib.Core.Logic.{⊎-elim}
 use mathlib.Core.Bool.{Bool, true, false, not, _&&_, _||_, cond, Bool·beq, true≢false}
-use mathlib.Core.List.{List}
+use mathlib.Core.List.{List, [], _∷_}
 use Prim.Native.Nat.{ℕ, zero, suc, _+_, _-_, _*_, _≤_, _<_}
-use native.Mathlib.Nat.{mul-le-mul}
+use native.Mathlib.Nat.{mul-le-mul, lt-of-lt-of-le, le-of-eq}
 use native.Mathlib.Omega.{arith}
 use lib.Dec.{T, ltb, eqb}
 use lib.ListN.{length, getD, take, set, length-set}
 use lib.IntN.{pos}
+use lib.Seq.{take-all, getD-take, length-take-le}
 use lib.Ieee.{Float, nan, inf, fin, Format, binary64, round, sum, add, sub, neg, ofInt}
 use lib.Ieee.Fits.{and-l, and-r}
 use Rattle.laws.specs.Answer.{Answer}
-use Rattle.laws.specs.Bools.{or-left, or-right}
+use Rattle.laws.specs.Bools.{is-true, true-is, true-or-false, and-left, and-right, and-both, or-left, or-right}
 use Rattle.laws.specs.Before.{before}
 use Rattle.laws.specs.BeforeLaws.{before-none, before-more}
-use Rattle.laws.specs.EveryLaws.{every-each}
+use Rattle.laws.specs.EveryLaws.{every-each, every-step, every-take}
 use Rattle.laws.specs.F64.{_⊕_, _⊘_}
+use Rattle.laws.specs.Fit.{no-both}
 use Rattle.laws.specs.Fill.{agree-more, agree-all}
 use Rattle.laws.specs.Index.{index-mod}
 use Rattle.laws.specs.Pictures.{plain, channelOf}
@@ -24,17 +27,17 @@ use Rattle.float.specs.Within.{nought, number, within, allWithin}
 use Rattle.float.specs.Narrowed.{narrowed}
 use Rattle.float.specs.WithinLaws.{Says, says, within-number}
 use Rattle.float.specs.Numbers.{round-no-nan}
-use Rattle.refusal.specs.Refusals.{Sized, badSize}
+use Rattle.refusal.specs.Refusals.{Sized, badSize, lowest, sizeIf, lengthIf, pixelIf}
 use Rattle.refusal.specs.Lengths.{badPicture}
 use Rattle.refusal.specs.LengthLaws.{picture-length}
 use Rattle.refusal.specs.RefusalLaws.{sized}
-use Rattle.refusal.specs.ThreeTests.{passed}
+use Rattle.refusal.specs.ThreeTests.{passed, two-passed, at-third, at-none}
 use Rattle.picture.specs.declared.Colour.{Colour}
 use Rattle.picture.specs.declared.Mean.{Mean}
 use Rattle.picture.specs.declared.Mean.the-variants as mean
 use Rattle.picture.specs.declared.Total.{Total}
 use Rattle.picture.specs.declared.Total.the-variants as total
-use Rattle.picture.specs.Pixels.{badColour, BadColourSays, filled, fillRefusal, FillSays, FilledCanvasSays, channelSum, channelMean, meanOf, meanRefusal, meanAnswer, MeanRgbSays, squaredDifference, totalOf, totalRefusal, totalAnswer, SseTotalSays, TotalAnySays, TotalWithinSays}
+use Rattle.picture.specs.Pixels.{badColour, BadColourSays, filled, fillRefusal, FillSays, FilledCanvasSays, channelSum, channelMean, meanOf, meanRefusal, meanAnswer, MeanRgbSays, squaredDifference, totalOf, totalTo, totalRefusal, totalAnswer, SseTotalSays, TotalAnySays, TotalWithinSays}
 
 -- ---- each promise has one answer
 pub BadColourSays-unique : (red green blue : Float) (r s : Bool) → BadColourSays red green blue r → BadColourSays red green blue s → r ≡ s
@@ -151,9 +154,6 @@ pub few-pixels : (w h : ℕ) → Sized w h → h * w ≤ 65536
 few-pixels w h s = mul-le-mul (s .h-high) (s .w-high)
 
 -- ---- total: number i is added
-unfoldable pub totalTo : List Float → List Float → ℕ → Float
-totalTo target canvas n = before nought _⊕_ (λ i. squaredDifference (getD target i nan) (getD canvas i nan)) n
-
 pub total-none : (target canvas : List Float) → nought ≡ totalTo target canvas 0
 unfolding totalTo
 total-none target canvas = sym (before-none nought _⊕_ (λ i. squaredDifference (getD target i nan) (getD canvas i nan)))
@@ -212,14 +212,71 @@ mean-passed w h target e =
     let p = passed (badSize w h) (badPicture w h (length target)) (not (allWithin target)) 7 (omega arith) e in
     (sized w h (p .0), picture-length w h (length target) (p .1), not-not (allWithin target) (p .2))
 
-pub total-passed : (w h : ℕ) (target canvas : List Float) → totalRefusal w h target canvas ≡ 0
-    → Sized w h × (length target ≡ h * w * 3) × (length canvas ≡ h * w * 3) × T (allWithin target) × T (allWithin canvas)
+-- ---- total: the sizes and lengths, then the pixels part by part
+pub first-length : (size a b : Bool) → (lowest (sizeIf size ∷ lengthIf a ∷ []) ≡ 0 → ⊥) → lowest (sizeIf size ∷ lengthIf a ∷ []) ≡ lowest (sizeIf size ∷ lengthIf (a || b) ∷ [])
+unfolding lowest
+first-length true true b r = refl
+first-length true false true r = refl
+first-length true false false r = refl
+first-length false true b r = refl
+first-length false false b r = absurd (r refl)
+
+pub lengths-passed : (w h n m : ℕ) → lowest (sizeIf (badSize w h) ∷ lengthIf (badPicture w h n || badPicture w h m) ∷ []) ≡ 0 → n ≡ m
+lengths-passed w h n m e =
+    let p = two-passed (badSize w h) (badPicture w h n || badPicture w h m) e in
+    picture-length w h n (or-left (badPicture w h n) (badPicture w h m) (p .1))
+    ∙ sym (picture-length w h m (or-right (badPicture w h n) (badPicture w h m) (p .1)))
+
+pub pixels-last : (w h : ℕ) (target canvas : List Float) → lowest (sizeIf (badSize w h) ∷ lengthIf (badPicture w h (length target) || badPicture w h (length canvas)) ∷ []) ≡ 0
+    → cond (allWithin target && allWithin canvas) 0 7 ≡ totalRefusal w h target canvas
 unfolding totalRefusal
-total-passed w h target canvas e =
-    let p = passed (badSize w h) (badPicture w h (length target) || badPicture w h (length canvas)) (not (allWithin target) || not (allWithin canvas)) 7 (omega arith) e in (
-      sized w h (p .0),
-      picture-length w h (length target) (or-left (badPicture w h (length target)) (badPicture w h (length canvas)) (p .1)),
-      picture-length w h (length canvas) (or-right (badPicture w h (length target)) (badPicture w h (length canvas)) (p .1)),
-      not-not (allWithin target) (or-left (not (allWithin target)) (not (allWithin canvas)) (p .2)),
-      not-not (allWithin canvas) (or-right (not (allWithin target)) (not (allWithin canvas)) (p .2)),
-    )
+pixels-last w h target canvas e =
+    let p = two-passed size lengths e in go (allWithin target) (allWithin canvas) (p .0) (p .1)
+  where
+    size : Bool
+    size = badSize w h
+
+    lengths : Bool
+    lengths = badPicture w h (length target) || badPicture w h (length canvas)
+
+    go : (a b : Bool) → size ≡ false → lengths ≡ false → cond (a && b) 0 7 ≡ lowest (sizeIf size ∷ lengthIf lengths ∷ pixelIf (not a || not b) ∷ [])
+    go true true p q = at-none size lengths false 7 (omega arith) p q refl
+    go true false p q = at-third size lengths true 7 (omega arith) p q refl
+    go false b p q = at-third size lengths true 7 (omega arith) p q refl
+
+crossed : (a b p q : Bool) → a && b && (p && q) ≡ (a && p) && (b && q)
+crossed true true p q = refl
+crossed true false true q = refl
+crossed true false false q = refl
+crossed false b p q = refl
+
+pub both-step : (t c : List Float) (k : ℕ) (ok p q : Bool) → k < length t → k < length c → ok ≡ allWithin (take k t) && allWithin (take k c)
+    → p ≡ within (getD t k nan) → q ≡ within (getD c k nan) → ok && (p && q) ≡ allWithin (take (k + 1) t) && allWithin (take (k + 1) c)
+both-step t c k ok p q h l e f g =
+    ap (λ (z : Bool). z && (p && q)) e
+    ∙ crossed (allWithin (take k t)) (allWithin (take k c)) p q
+    ∙ ap (λ (z : Bool). z && (allWithin (take k c) && q)) (every-step within t k nan (allWithin (take k t)) p h refl f)
+    ∙ ap (λ (z : Bool). allWithin (take (k + 1) t) && z) (every-step within c k nan (allWithin (take k c)) q l refl g)
+
+-- a part that is not within 0..1, and an element of one that is
+pub part-bad : (t c : List Float) (k : ℕ) → allWithin (take k t) && allWithin (take k c) ≡ false → allWithin t && allWithin c ≡ false
+part-bad t c k h =
+    ⊎-elim
+    (λ (y : allWithin t && allWithin c ≡ true).
+    no-both
+    (and-both (allWithin (take k t)) (allWithin (take k c))
+    (is-true (allWithin (take k t)) (every-take within k t (true-is (allWithin t) (and-left (allWithin t) (allWithin c) y))))
+    (is-true (allWithin (take k c)) (every-take within k c (true-is (allWithin c) (and-right (allWithin t) (allWithin c) y)))))
+    h)
+    (λ (n : allWithin t && allWithin c ≡ false). n)
+    (true-or-false (allWithin t && allWithin c))
+
+pub part-all : (t c : List Float) (k : ℕ) → length t ≤ k → length c ≤ k → T (allWithin (take k t)) → T (allWithin (take k c)) → allWithin t && allWithin c ≡ true
+part-all t c k h l p q =
+    and-both (allWithin t) (allWithin c)
+    (ap allWithin (sym (take-all k t h)) ∙ is-true (allWithin (take k t)) p)
+    (ap allWithin (sym (take-all k c l)) ∙ is-true (allWithin (take k c)) q)
+
+pub within-before : (xs : List Float) (n k : ℕ) → T (allWithin (take n xs)) → k < n → n ≤ length xs → T (within (getD xs k nan))
+within-before xs n k h l m =
+    subst (λ (x : Float). T (within x)) (getD-take n xs k nan l) (within-at (take n xs) k h (lt-of-lt-of-le l (le-of-eq (sym (length-take-le n xs m)))))

@@ -81,6 +81,10 @@ unfoldable pub totalOf : List Float → List Float → Float
 totalOf target canvas =
     before nought _⊕_ (λ i. squaredDifference (getD target i nan) (getD canvas i nan)) (length target)
 
+-- over the first n numbers
+unfoldable pub totalTo : List Float → List Float → ℕ → Float
+totalTo target canvas n = before nought _⊕_ (λ i. squaredDifference (getD target i nan) (getD canvas i nan)) n
+
 unfoldable pub totalRefusal : ℕ → ℕ → List Float → List Float → ℕ
 totalRefusal w h target canvas =
     lowest

@@ -1,23 +1,24 @@
 // Pictures: fill, mean, total, and shapes blended into them.
 ghost use mathlib.Core.Path.{_≡_};
-ghost use mathlib.Core.Bool.{false};
+ghost use mathlib.Core.Bool.{false, cond, _&&_, _||_};
 ghost use mathlib.Core.List.{[], _∷_};
 ghost use Prim.Native.Nat.{_+_, _*_, _^_, _<_, _≤_};
 ghost use lib.Dec.{T};
 ghost use lib.IntN.{pos};
 ghost use lib.Ieee.{binary64, ofInt};
-ghost use lib.ListN.{length};
+ghost use lib.ListN.{length, take};
+ghost use Rattle.laws.specs.Answer.{answer};
 ghost use Rattle.laws.specs.F32.{_⊟_};
 ghost use Rattle.laws.specs.F64.{_⊘_};
 ghost use Rattle.laws.specs.Strokes.{RunsWithin};
 ghost use Rattle.float.specs.Narrowed.{narrowed};
-ghost use Rattle.float.specs.Within.{number, within, allWithin};
+ghost use Rattle.float.specs.Within.{nought, number, within, allWithin};
 ghost use Rattle.refusal.specs.Refusals.{Sized, lowest, sizeIf, lengthIf, badSize};
 ghost use Rattle.refusal.specs.Lengths.{badPicture};
 ghost use Rattle.cover.specs.Cover.{badPlaces};
 ghost use Rattle.picture.specs.Painting.{BlendSays};
 ghost use Rattle.picture.specs.Strokes.{brushedPart, brushedRows, RowsWithin};
-ghost use Rattle.picture.specs.Pixels.{BadColourSays, FillSays, FilledCanvasSays, fillRefusal, MeanRgbSays, meanOf, meanRefusal, SseTotalSays, squaredDifference, totalRefusal, TotalAnySays, TotalWithinSays};
+ghost use Rattle.picture.specs.Pixels.{BadColourSays, FillSays, FilledCanvasSays, fillRefusal, MeanRgbSays, meanOf, meanRefusal, SseTotalSays, squaredDifference, totalAnswer, totalOf, totalTo, TotalAnySays, TotalWithinSays};
 use brush::Brush;
 use cover::Kind;
 use cover::reached::Rows;
@@ -160,29 +161,80 @@ fn share(sum: f64, n: usize) -> f32
 pub fn sse_total(w: usize, h: usize, target: &[f32], canvas: &[f32]) -> Total
     ensures { λ r. ⌜ SseTotalSays w h (now (target .entry)) (now (canvas .entry)) r ⌝ }
 {
-    let number = total_refusal(w, h, target, canvas);
+    let number = total_refusal(w, h, target.len(), canvas.len());
     if number == 0 {
-        Total::Done(total_within(target, canvas))
+        total_tested(target, canvas)
     } else {
         Total::Refused(number)
     }
 }
 
-fn total_refusal(w: usize, h: usize, target: &[f32], canvas: &[f32]) -> u8
-    ensures { λ r. ⌜ r ≡ totalRefusal w h (now (target .entry)) (now (canvas .entry)) ⌝ }
+// Size and lengths.
+fn total_refusal(w: usize, h: usize, n: usize, m: usize) -> u8
+    ensures { λ r. ⌜ r ≡ lowest (sizeIf (badSize w h) ∷ lengthIf (badPicture w h n || badPicture w h m) ∷ []) ⌝ }
 {
-    let number = refused(w, h, target.len());
+    let number = refused(w, h, n);
     if number != 0 {
         return number;
     }
-    let number = refused(w, h, canvas.len());
-    if number != 0 {
-        return number;
+    refused(w, h, m)
+}
+
+// Then the pixels, 64 numbers at a time: the next ones' tests are done while the additions, which may not be reordered, wait for
+// each other.
+fn total_tested(target: &[f32], canvas: &[f32]) -> Total
+    requires { ⌜ length (now target) ≡ length (now canvas) ⌝ }
+    ensures { λ r. ⌜ totalAnswer r ≡ answer (cond (allWithin (now (target .entry)) && allWithin (now (canvas .entry))) 0 7) (totalOf (now (target .entry)) (now (canvas .entry))) nought ⌝ }
+{
+    let n = target.len();
+    let mut sum = 0.0f64;
+    let mut i = 0;
+    while i < n {
+        let e = part_end(i, n);
+        if !both_within(target, canvas, i, e) {
+            return Total::Refused(refusal::PIXEL);
+        }
+        sum = add_squares(target, canvas, i, e, sum);
+        i = e;
     }
-    if !float::all_within(target) | !float::all_within(canvas) {
-        return refusal::PIXEL;
+    Total::Done(sum)
+}
+
+fn part_end(i: usize, n: usize) -> usize
+    requires { ⌜ i < n ⌝ }
+    ensures { λ r. ⌜ (i < r) × (r ≤ n) ⌝ }
+{
+    if n - i < 64 {
+        return n;
     }
-    0
+    i + 64
+}
+
+// All before `from` were within 0..1. The loop has no way out, so that it is vectorised.
+fn both_within(target: &[f32], canvas: &[f32], from: usize, to: usize) -> bool
+    requires { ⌜ (from ≤ to) × (to ≤ length (now target)) × (to ≤ length (now canvas)) ⌝ }
+    requires { ⌜ T (allWithin (take from (now target))) × T (allWithin (take from (now canvas))) ⌝ }
+    ensures { λ r. ⌜ r ≡ allWithin (take to (now (target .entry))) && allWithin (take to (now (canvas .entry))) ⌝ }
+{
+    let mut ok = true;
+    for k in from..to {
+        ok = ok & (float::within(target[k]) & float::within(canvas[k]));
+    }
+    ok
+}
+
+// The sum goes on from that of the numbers before `from`.
+fn add_squares(target: &[f32], canvas: &[f32], from: usize, to: usize, before: f64) -> f64
+    requires { ⌜ (from ≤ to) × (to ≤ length (now target)) × (to ≤ length (now canvas)) ⌝ }
+    requires { ⌜ T (allWithin (take to (now target))) × T (allWithin (take to (now canvas))) ⌝ }
+    requires { ⌜ before ≡ totalTo (now target) (now canvas) from ⌝ }
+    ensures { λ r. ⌜ r ≡ totalTo (now (target .entry)) (now (canvas .entry)) to ⌝ }
+{
+    let mut sum = before;
+    for k in from..to {
+        sum = sum + squared(target[k], canvas[k]);
+    }
+    sum
 }
 
 // The same without the tests, for pictures within 0..1.

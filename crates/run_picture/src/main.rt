@@ -163,6 +163,20 @@ fn total(w: usize, h: usize, nt: usize, nc: usize, pt: f32, pc: f32) {
     }
 }
 
+// More numbers than are tested and added at a time: all differ by a quarter, but for the last.
+fn long_total(last: f32) {
+    let target = [0.5f32; 192];
+    let mut canvas = [0.25f32; 192];
+    canvas[191] = last;
+    show::text(b"total 8x8, the last pixel");
+    number(last);
+    let t = probe_picture::probe_sse_total(8, 8, &target, &canvas);
+    answered(t.number);
+    show::text(b" ");
+    show::hex(float::bits64(t.total), 16);
+    show::text(b"\n");
+}
+
 fn totals() {
     total(2, 3, 18, 18, 0.1, 0.2);
     total(3, 2, 18, 18, 0.1, 0.2);
@@ -180,6 +194,8 @@ fn totals() {
     total(0, 3, 17, 18, 2.0, 0.2);
     total(2, 257, 18, 18, 0.1, 2.0);
     total(2, 3, 18, 17, 2.0, 0.2);
+    long_total(0.25);
+    long_total(2.0);
 }
 
 // A total of any numbers: 0.7 and 0.1 differ by less in f32 than widened first, and a difference of a NaN is none.

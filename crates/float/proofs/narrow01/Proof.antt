@@ -10,11 +10,11 @@ use lib.Ieee.Bits.{ofBits-toBits}
 use Rattle.laws.specs.Bools.{true-is}
 use Rattle.float.specs.Within.{nought, number}
 use Rattle.float.specs.Clamped.{clamped}
-use Rattle.float.specs.ClampLaws.{clamped-upto}
+use Rattle.float.specs.ClampLaws.{clamped-upto, clamped-above, clamped-nan, beside-one, narrowed-one}
 use Rattle.float.specs.Narrowed.{narrowed}
 use Rattle.float.specs.NarrowLaws.{narrowed-no-nan, narrowed-fits}
 use Rattle.float.specs.Narrowing.{between, at-positive, positive}
-use Rattle.float.specs.Numbers.{no-nan-bits}
+use Rattle.float.specs.Numbers.{nan32, no-nan-bits}
 use Rattle.float.specs.OrderLaws.{le-numbers}
 use Rattle.float.proofs.narrow01.Statement.{statement}
 use Rattle.float.proofs.narrow01.Tie as tie
@@ -66,14 +66,13 @@ returns-3 c =
     let q = c .before .before .before .before .args .q in
     c .narrow .ensures ∙ ap narrowed (sym (clamped-upto q (c .before .before .before .if1 .taken) (c .before .if3 .left)))
 
-clamp01-requires : tie.Need-clamp01-requires
-clamp01-requires c κs = search needs
-
-narrow-requires-2 : tie.Need-narrow-requires-2
-narrow-requires-2 c κs = search needs
-
 returns-4 : tie.Need-returns-4
-returns-4 c = simp (c .narrow2 .ensures, c .before .clamp01 .ensures)
+unfolding ofBits
+returns-4 c = sym (ap narrowed (clamped-above (c .before .before .args .q) (c .if4 .taken)) ∙ narrowed-one)
+
+returns-5 : tie.Need-returns-5
+unfolding ofBits narrowed
+returns-5 c = nan32 ∙ sym (ap narrowed (ap clamped (beside-one (c .before .before .args .q) (c .before .if1 .left) (c .if4 .left)) ∙ clamped-nan))
 
 pub narrow01-spec : {M : Type 1} → statement M
 narrow01-spec =
@@ -87,6 +86,5 @@ narrow01-spec =
     returns-2
     narrow-requires
     returns-3
-    clamp01-requires
-    narrow-requires-2
-    returns-4)
+    returns-4
+    returns-5)
