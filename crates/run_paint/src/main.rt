@@ -2,34 +2,10 @@
 use cover::Kind;
 use demands::Call;
 
+// What stands in a table before a call, to count what it writes.
 const MARK: f64 = 7.0;
 
 const PLAIN: f32 = 0.25;
-
-fn fill(xs: &mut [f32], first: f32, step: f32) {
-    let mut x = first;
-    for i in 0..xs.len() {
-        xs[i] = x;
-        x = x + step;
-    }
-}
-
-fn mark(table: &mut [f64]) {
-    for i in 0..table.len() {
-        table[i] = MARK;
-    }
-}
-
-// How many numbers of a marked table were written.
-fn written(table: &[f64]) -> usize {
-    let mut n = 0;
-    for i in 0..table.len() {
-        if table[i] != MARK {
-            n += 1;
-        }
-    }
-    n
-}
 
 // How many numbers of a plain picture were changed.
 fn changed(canvas: &[f32]) -> usize {
@@ -42,33 +18,8 @@ fn changed(canvas: &[f32]) -> usize {
     n
 }
 
-fn same(a: &[f64], b: &[f64]) -> bool {
-    if a.len() != b.len() {
-        return false;
-    }
-    let mut ok = true;
-    for i in 0..a.len() {
-        if a[i] != b[i] {
-            ok = false;
-        }
-    }
-    ok
-}
-
-fn number(x: f32) {
-    show::text(b" ");
-    show::hex(float::bits32(x) as u64, 8);
-}
-
-fn numbers(row: &[f32]) {
-    for i in 0..row.len() {
-        number(row[i]);
-    }
-    show::text(b"\n");
-}
-
 fn verdict(table: &[f64], fresh: &[f64]) {
-    if same(table, fresh) {
+    if figures::differing(table, fresh) == 0 {
         show::text(b", the table as built afresh\n");
     } else {
         show::text(b", THE TABLE NOT AS BUILT AFRESH\n");
@@ -78,18 +29,18 @@ fn verdict(table: &[f64], fresh: &[f64]) {
 // ---- shapes on a picture of 4 columns and 3 rows
 
 fn row_shown(y: u64, row: &[f64]) {
+    let marks = [MARK; 75];
     show::text(b" ");
     show::unsigned(y);
     show::text(b":");
-    show::unsigned(written(row) as u64);
+    show::unsigned(figures::differing(row, &marks) as u64);
 }
 
 // The numbers written of a marked table, row by row.
 fn rows_redone(target: &[f32; 36], kind: Kind, opacity: f32, red: f32, green: f32, blue: f32) {
     let mut canvas = [0.0f32; 36];
-    fill(&mut canvas, 0.9, -0.02);
-    let mut marked = [0.0; 225];
-    mark(&mut marked);
+    figures::slope(&mut canvas, 0.9, -0.02);
+    let mut marked = [MARK; 225];
     paint::paint(
         kind,
         opacity,
@@ -111,8 +62,8 @@ fn rows_redone(target: &[f32; 36], kind: Kind, opacity: f32, red: f32, green: f3
 fn stroke(name: &[u8], kind: Kind, opacity: f32, red: f32, green: f32, blue: f32) {
     let mut target = [0.0f32; 36];
     let mut canvas = [0.0f32; 36];
-    fill(&mut target, 0.0, 0.02);
-    fill(&mut canvas, 0.9, -0.02);
+    figures::slope(&mut target, 0.0, 0.02);
+    figures::slope(&mut canvas, 0.9, -0.02);
     let mut places = [0.0; 225];
     let mut fresh = [0.0; 225];
     table::build(&target, &canvas, 4, 3, &mut places);
@@ -134,9 +85,7 @@ fn stroke(name: &[u8], kind: Kind, opacity: f32, red: f32, green: f32, blue: f32
     show::unsigned(no as u64);
     rows_redone(&target, kind, opacity, red, green, blue);
     verdict(&places, &fresh);
-    numbers(&canvas[0..12]);
-    numbers(&canvas[12..24]);
-    numbers(&canvas[24..36]);
+    figures::numbers(&canvas, 12);
 }
 
 fn strokes() {
@@ -217,7 +166,7 @@ fn lent(
     canvas: &mut [f32],
     places: &mut [f64],
 ) {
-    mark(places);
+    let marks = [MARK; 240];
     let no = paint::paint(
         Kind::Circle(cx, 1, 1),
         opacity,
@@ -235,7 +184,7 @@ fn lent(
     show::text(b", changed ");
     show::unsigned(changed(canvas) as u64);
     show::text(b" and ");
-    show::unsigned(written(places) as u64);
+    show::unsigned(figures::differing(places, &marks) as u64);
     show::text(b"\n");
 }
 
@@ -243,9 +192,9 @@ fn asked(cx: i32, opacity: f32, red: f32, w: usize, h: usize, nt: usize, nc: usi
     show::text(b"x ");
     show::signed32(cx);
     show::text(b", opacity");
-    number(opacity);
+    figures::number(opacity);
     show::text(b", red");
-    number(red);
+    figures::number(red);
     show::text(b", ");
     show::unsigned(w as u64);
     show::text(b"x");
@@ -261,7 +210,7 @@ fn asked(cx: i32, opacity: f32, red: f32, w: usize, h: usize, nt: usize, nc: usi
 fn ask(cx: i32, opacity: f32, red: f32, w: usize, h: usize, nt: usize, nc: usize, n: usize) {
     let target = [0.5f32; 40];
     let mut canvas = [PLAIN; 40];
-    let mut places = [0.0; 240];
+    let mut places = [MARK; 240];
     asked(cx, opacity, red, w, h, nt, nc, n);
     if nt <= 40 {
         if nc <= 40 {
@@ -339,8 +288,8 @@ fn circle(cx: i32, cy: i32, r: i32, opacity: f32, w: usize, h: usize) -> Call {
 fn both(first: Call, second: Call) {
     let mut target = [0.0f32; 36];
     let mut canvas = [0.0f32; 36];
-    fill(&mut target, 0.0, 0.02);
-    fill(&mut canvas, 0.9, -0.02);
+    figures::slope(&mut target, 0.0, 0.02);
+    figures::slope(&mut canvas, 0.9, -0.02);
     let mut places = [0.0; 225];
     let mut fresh = [0.0; 225];
     let no = table::build(&target, &canvas, 4, 3, &mut places);

@@ -1,33 +1,9 @@
 // Fill, mean, total and painting on small pictures, number for number, and the refusals of each, several wrong at once.
 // Painting goes through the probes, which have its tests.
 
-// A slope: each number differs from the others.
-fn slope(xs: &mut [f32], first: f32, step: f32) {
-    let mut x = first;
-    for i in 0..xs.len() {
-        xs[i] = x;
-        x = x + step;
-    }
-}
-
 fn put(xs: &mut [f32], i: usize, x: f32) {
     if i < xs.len() {
         xs[i] = x;
-    }
-}
-
-fn number(x: f32) {
-    show::text(b" ");
-    show::hex(float::bits32(x) as u64, 8);
-}
-
-// Three numbers a line: a pixel.
-fn numbers(xs: &[f32]) {
-    for i in 0..xs.len() {
-        number(xs[i]);
-        if i % 3 == 2 {
-            show::text(b"\n");
-        }
     }
 }
 
@@ -47,11 +23,11 @@ fn answered(no: u8) {
 // ---- fill
 
 fn fill_on(w: usize, h: usize, red: f32, green: f32, blue: f32, canvas: &mut [f32]) {
-    slope(canvas, 0.25, 0.03125);
+    figures::slope(canvas, 0.25, 0.03125);
     let no = picture::filled_canvas(w, h, red, green, blue, canvas);
     answered(no);
     show::text(b"\n");
-    numbers(canvas);
+    figures::numbers(canvas, 3);
 }
 
 fn fill(w: usize, h: usize, n: usize, red: f32, green: f32, blue: f32) {
@@ -59,9 +35,9 @@ fn fill(w: usize, h: usize, n: usize, red: f32, green: f32, blue: f32) {
     show::text(b"fill ");
     size(w, h, n);
     show::text(b", colour");
-    number(red);
-    number(green);
-    number(blue);
+    figures::number(red);
+    figures::number(green);
+    figures::number(blue);
     if n <= 20 {
         fill_on(w, h, red, green, blue, &mut canvas[0..n]);
     }
@@ -92,13 +68,13 @@ fn fills() {
 
 // Of a slope, with one number put in its place.
 fn mean_on(w: usize, h: usize, last: f32, target: &mut [f32]) {
-    slope(target, 0.01, 0.047);
+    figures::slope(target, 0.01, 0.047);
     put(target, 17, last);
     let m = probe_picture::probe_mean_rgb(w, h, target);
     answered(m.number);
-    number(m.red);
-    number(m.green);
-    number(m.blue);
+    figures::number(m.red);
+    figures::number(m.green);
+    figures::number(m.blue);
     show::text(b"\n");
 }
 
@@ -107,7 +83,7 @@ fn mean(w: usize, h: usize, n: usize, last: f32) {
     show::text(b"mean ");
     size(w, h, n);
     show::text(b", last");
-    number(last);
+    figures::number(last);
     if n <= 20 {
         mean_on(w, h, last, &mut target[0..n]);
     }
@@ -135,8 +111,8 @@ fn means() {
 // ---- total
 
 fn total_on(w: usize, h: usize, pt: f32, pc: f32, target: &mut [f32], canvas: &mut [f32]) {
-    slope(target, 0.01, 0.047);
-    slope(canvas, 0.9, -0.043);
+    figures::slope(target, 0.01, 0.047);
+    figures::slope(canvas, 0.9, -0.043);
     put(target, 3, pt);
     put(canvas, 17, pc);
     let t = probe_picture::probe_sse_total(w, h, target, canvas);
@@ -154,8 +130,8 @@ fn total(w: usize, h: usize, nt: usize, nc: usize, pt: f32, pc: f32) {
     show::text(b" ");
     show::unsigned(nc as u64);
     show::text(b", pixels");
-    number(pt);
-    number(pc);
+    figures::number(pt);
+    figures::number(pc);
     if nt <= 20 {
         if nc <= 20 {
             total_on(w, h, pt, pc, &mut target[0..nt], &mut canvas[0..nc]);
@@ -203,8 +179,8 @@ fn total_any(t: f32, c: f32) {
     let target = [t, 0.5f32];
     let canvas = [c, 0.5f32];
     show::text(b"total of any");
-    number(t);
-    number(c);
+    figures::number(t);
+    figures::number(c);
     show::text(b": ");
     show::hex(float::bits64(picture::total_any(&target, &canvas)), 16);
     show::text(b"\n");
@@ -215,11 +191,11 @@ fn total_any(t: f32, c: f32) {
 fn painted(no: u8, canvas: &[f32]) {
     answered(no);
     show::text(b"\n");
-    numbers(canvas);
+    figures::numbers(canvas, 3);
 }
 
 fn circle_on(w: usize, h: usize, cx: i32, cy: i32, r: i32, opacity: f32, canvas: &mut [f32]) {
-    slope(canvas, 0.0, 0.015625);
+    figures::slope(canvas, 0.0, 0.015625);
     let no = probe_picture::probe_blend_circle(w, h, cx, cy, r, opacity, 0.1, 0.7, 0.9, canvas);
     painted(no, canvas);
 }
@@ -235,7 +211,7 @@ fn circle(w: usize, h: usize, n: usize, cx: i32, cy: i32, r: i32, opacity: f32) 
     show::text(b" on ");
     size(w, h, n);
     show::text(b", opacity");
-    number(opacity);
+    figures::number(opacity);
     if n <= 64 {
         circle_on(w, h, cx, cy, r, opacity, &mut canvas[0..n]);
     }
@@ -243,9 +219,9 @@ fn circle(w: usize, h: usize, n: usize, cx: i32, cy: i32, r: i32, opacity: f32) 
 
 fn triangle(opacity: f32) {
     let mut canvas = [0.0f32; 60];
-    slope(&mut canvas, 0.0, 0.015625);
+    figures::slope(&mut canvas, 0.0, 0.015625);
     show::text(b"triangle 0 0 4 0 0 3 on 5x4, opacity");
-    number(opacity);
+    figures::number(opacity);
     let no = probe_picture::probe_blend_triangle(
         5,
         4,
@@ -266,9 +242,9 @@ fn triangle(opacity: f32) {
 
 fn quad(opacity: f32) {
     let mut canvas = [0.0f32; 60];
-    slope(&mut canvas, 0.0, 0.015625);
+    figures::slope(&mut canvas, 0.0, 0.015625);
     show::text(b"quad 1 1 9 1 9 2 1 2 on 5x4, opacity");
-    number(opacity);
+    figures::number(opacity);
     let no = probe_picture::probe_blend_quad(
         5,
         4,

@@ -9,11 +9,6 @@ fn three(b: [u64; 3]) -> [f64; 3] {
     ]
 }
 
-fn number(x: f32) {
-    show::text(b" ");
-    show::hex(float::bits32(x) as u64, 8);
-}
-
 fn score_of(
     t: [u64; 3],
     c: [u64; 3],
@@ -38,11 +33,43 @@ fn score_of(
     };
     let r = score::finalize(s, float::of_bits32(opacity));
     show::unsigned(r.count as u64);
-    number(r.change);
-    number(r.red);
-    number(r.green);
-    number(r.blue);
+    figures::number(r.change);
+    figures::number(r.red);
+    figures::number(r.green);
+    figures::number(r.blue);
     show::text(b"\n");
+}
+
+fn three_pixels(opacity: u32) {
+    score_of(
+        [
+            0x3ff3_dc1f_c800_0000,
+            0x3ff6_2670_3800_0000,
+            0x3ff2_d19e_2400_0000,
+        ],
+        [
+            0x4001_1ae8_2800_0000,
+            0x3ffa_a691_0400_0000,
+            0x4000_a81a_a000_0000,
+        ],
+        [
+            0x3fe4_ad81_1299_9108,
+            0x3feb_c8d2_e994_27c8,
+            0x3fe0_41ef_2abb_d7c2,
+        ],
+        [
+            0x3ff9_962f_d38b_73b0,
+            0x3ff4_1bf5_f320_c469,
+            0x3ff8_a9e8_586b_03e0,
+        ],
+        [
+            0x3feb_f641_f25f_e2d0,
+            0x3fdf_87a3_d292_4920,
+            0x3fe8_04eb_3d4b_1868,
+        ],
+        3,
+        opacity,
+    );
 }
 
 fn pixels() {
@@ -167,95 +194,11 @@ fn pixels() {
         0x3e4c_cccd,
     );
     // three pixels at 0.9
-    score_of(
-        [
-            0x3ff3_dc1f_c800_0000,
-            0x3ff6_2670_3800_0000,
-            0x3ff2_d19e_2400_0000,
-        ],
-        [
-            0x4001_1ae8_2800_0000,
-            0x3ffa_a691_0400_0000,
-            0x4000_a81a_a000_0000,
-        ],
-        [
-            0x3fe4_ad81_1299_9108,
-            0x3feb_c8d2_e994_27c8,
-            0x3fe0_41ef_2abb_d7c2,
-        ],
-        [
-            0x3ff9_962f_d38b_73b0,
-            0x3ff4_1bf5_f320_c469,
-            0x3ff8_a9e8_586b_03e0,
-        ],
-        [
-            0x3feb_f641_f25f_e2d0,
-            0x3fdf_87a3_d292_4920,
-            0x3fe8_04eb_3d4b_1868,
-        ],
-        3,
-        0x3f66_6666,
-    );
+    three_pixels(0x3f66_6666);
     // three pixels at 0.2
-    score_of(
-        [
-            0x3ff3_dc1f_c800_0000,
-            0x3ff6_2670_3800_0000,
-            0x3ff2_d19e_2400_0000,
-        ],
-        [
-            0x4001_1ae8_2800_0000,
-            0x3ffa_a691_0400_0000,
-            0x4000_a81a_a000_0000,
-        ],
-        [
-            0x3fe4_ad81_1299_9108,
-            0x3feb_c8d2_e994_27c8,
-            0x3fe0_41ef_2abb_d7c2,
-        ],
-        [
-            0x3ff9_962f_d38b_73b0,
-            0x3ff4_1bf5_f320_c469,
-            0x3ff8_a9e8_586b_03e0,
-        ],
-        [
-            0x3feb_f641_f25f_e2d0,
-            0x3fdf_87a3_d292_4920,
-            0x3fe8_04eb_3d4b_1868,
-        ],
-        3,
-        0x3e4c_cccd,
-    );
+    three_pixels(0x3e4c_cccd);
     // three pixels at 1/3
-    score_of(
-        [
-            0x3ff3_dc1f_c800_0000,
-            0x3ff6_2670_3800_0000,
-            0x3ff2_d19e_2400_0000,
-        ],
-        [
-            0x4001_1ae8_2800_0000,
-            0x3ffa_a691_0400_0000,
-            0x4000_a81a_a000_0000,
-        ],
-        [
-            0x3fe4_ad81_1299_9108,
-            0x3feb_c8d2_e994_27c8,
-            0x3fe0_41ef_2abb_d7c2,
-        ],
-        [
-            0x3ff9_962f_d38b_73b0,
-            0x3ff4_1bf5_f320_c469,
-            0x3ff8_a9e8_586b_03e0,
-        ],
-        [
-            0x3feb_f641_f25f_e2d0,
-            0x3fdf_87a3_d292_4920,
-            0x3fe8_04eb_3d4b_1868,
-        ],
-        3,
-        0x3eaa_aaab,
-    );
+    three_pixels(0x3eaa_aaab);
 }
 
 fn sums() {

@@ -29,23 +29,6 @@ enum Asked {
 
 // ---- answers
 
-fn number(x: f32) {
-    show::text(b" ");
-    show::hex(float::bits32(x) as u64, 8);
-}
-
-fn wide(x: f64) {
-    show::text(b" ");
-    show::hex(float::bits64(x), 16);
-}
-
-fn three(xs: [f64; 3]) {
-    show::text(b"\n");
-    wide(xs[0]);
-    wide(xs[1]);
-    wide(xs[2]);
-}
-
 fn refused(no: u8) {
     show::text(b"refused ");
     show::unsigned(no as u64);
@@ -57,10 +40,10 @@ fn answer(s: Scored) {
             show::hex(float::bits32(r.opacity) as u64, 8);
             show::text(b" ");
             show::unsigned(r.count as u64);
-            number(r.change);
-            number(r.red);
-            number(r.green);
-            number(r.blue);
+            figures::number(r.change);
+            figures::number(r.red);
+            figures::number(r.green);
+            figures::number(r.blue);
         }
         Scored::Refused(no) => refused(no),
     }
@@ -75,26 +58,8 @@ fn sums_answer(c: Collected) {
     }
     let s = c.sums;
     show::unsigned(s.count as u64);
-    let t = s.s_t;
-    let v = s.s_c;
-    let tt = s.s_t2;
-    let vv = s.s_c2;
-    let tv = s.s_tc;
-    three(t);
-    three(v);
-    three(tt);
-    three(vv);
-    three(tv);
     show::text(b"\n");
-}
-
-fn listed(xs: &[f32]) {
-    for i in 0..xs.len() {
-        if i % 8 == 0 {
-            show::text(b"\n");
-        }
-        number(xs[i]);
-    }
+    figures::series(s);
 }
 
 // ---- what a line says
@@ -372,8 +337,11 @@ fn sweep_line(p: &[u64; 11]) -> bool {
 fn levels_on(bits: u32, levels: &mut [f32]) {
     let no = score::levels::alpha_levels(bits, levels);
     show::unsigned(no as u64);
-    listed(levels);
     show::text(b"\n");
+    figures::numbers(levels, 8);
+    if levels.len() % 8 != 0 {
+        show::text(b"\n");
+    }
 }
 
 // BITS, LENT.

@@ -1,63 +1,28 @@
 // A small table's numbers, document 01's figures of an update, and the refusals of both calls, several wrong at once.
 use sums::ShapeSums;
 
+// What stands in a table before a call, to count what it writes.
 const MARK: f64 = 7.0;
 
-fn fill(xs: &mut [f32], first: f32, step: f32) {
-    let mut x = first;
-    for i in 0..xs.len() {
-        xs[i] = x;
-        x = x + step;
-    }
-}
-
-fn mark(table: &mut [f64]) {
-    for i in 0..table.len() {
-        table[i] = MARK;
-    }
-}
-
-// How many numbers were written.
-fn written(table: &[f64]) -> usize {
-    let mut n = 0;
-    for i in 0..table.len() {
-        if table[i] != MARK {
-            n += 1;
-        }
-    }
-    n
-}
-
-fn same(a: &[f64], b: &[f64]) -> bool {
-    if a.len() != b.len() {
-        return false;
-    }
-    let mut ok = true;
-    for i in 0..a.len() {
-        if a[i] != b[i] {
-            ok = false;
-        }
-    }
-    ok
-}
-
+// How many numbers of a marked table were written, beside the call's number.
 fn answer(no: u8, table: &[f64]) {
+    let marks = [MARK; 150];
     show::text(b": ");
     show::unsigned(no as u64);
     show::text(b", numbers written ");
-    show::unsigned(written(table) as u64);
+    show::unsigned(figures::differing(table, &marks) as u64);
     show::text(b"\n");
 }
 
 // ---- an update of 3 rows of 2 pixels: the canvas has changed in every row
 
 fn row_shown(y: usize, old: &[f64], new: &[f64], fresh: &[f64]) {
-    if same(new, old) {
+    if figures::differing(new, old) == 0 {
         return;
     }
     show::text(b" ");
     show::unsigned(y as u64);
-    if !same(new, fresh) {
+    if figures::differing(new, fresh) != 0 {
         show::text(b" (not as built)");
     }
 }
@@ -75,9 +40,9 @@ fn update(ymin: i32, ymax: i32) {
     let mut target = [0.0f32; 18];
     let mut canvas = [0.0f32; 18];
     let mut changed = [0.0f32; 18];
-    fill(&mut target, 0.0, 0.05);
-    fill(&mut canvas, 0.9, -0.04);
-    fill(&mut changed, 0.1, 0.03);
+    figures::slope(&mut target, 0.0, 0.05);
+    figures::slope(&mut canvas, 0.9, -0.04);
+    figures::slope(&mut changed, 0.1, 0.03);
     let mut old = [0.0; 135];
     let mut new = [0.0; 135];
     let mut fresh = [0.0; 135];
@@ -126,13 +91,11 @@ fn asked(w: usize, h: usize, nt: usize, nc: usize, n: usize, pt: f32, pc: f32) {
 }
 
 fn build_on(target: &[f32], canvas: &[f32], w: usize, h: usize, places: &mut [f64]) {
-    mark(places);
     let no = table::build(target, canvas, w, h, places);
     answer(no, places);
 }
 
 fn update_on(target: &[f32], canvas: &[f32], w: usize, h: usize, places: &mut [f64]) {
-    mark(places);
     let no = table::update_canvas_rows(target, canvas, w, h, places, 0, 2);
     answer(no, places);
 }
@@ -140,7 +103,7 @@ fn update_on(target: &[f32], canvas: &[f32], w: usize, h: usize, places: &mut [f
 fn build(w: usize, h: usize, nt: usize, nc: usize, n: usize, pt: f32, pc: f32) {
     let mut target = [0.5f32; 20];
     let mut canvas = [0.25f32; 20];
-    let mut places = [0.0; 150];
+    let mut places = [MARK; 150];
     target[3] = pt;
     canvas[17] = pc;
     show::text(b"build ");
@@ -157,7 +120,7 @@ fn build(w: usize, h: usize, nt: usize, nc: usize, n: usize, pt: f32, pc: f32) {
 fn refresh(w: usize, h: usize, nt: usize, nc: usize, n: usize, pt: f32, pc: f32) {
     let mut target = [0.5f32; 20];
     let mut canvas = [0.25f32; 20];
-    let mut places = [0.0; 150];
+    let mut places = [MARK; 150];
     target[3] = pt;
     canvas[17] = pc;
     show::text(b"update ");
@@ -225,27 +188,6 @@ fn refreshes() {
 
 // ---- the numbers themselves, of 1 row of 2 pixels
 
-fn number(x: f64) {
-    show::text(b" ");
-    show::hex(float::bits64(x), 16);
-}
-
-fn numbers(table: &[f64]) {
-    for i in 0..table.len() {
-        number(table[i]);
-        if i % 3 == 2 {
-            show::text(b"\n");
-        }
-    }
-}
-
-fn three(xs: [f64; 3]) {
-    number(xs[0]);
-    number(xs[1]);
-    number(xs[2]);
-    show::text(b"\n");
-}
-
 // Pixels left to right added to sums over five others.
 fn span(table: &[f64], left: usize, right: usize) {
     if table.len() != 45 {
@@ -273,16 +215,7 @@ fn span(table: &[f64], left: usize, right: usize) {
     show::text(b", ");
     show::unsigned(s.count as u64);
     show::text(b" pixels\n");
-    let t = s.s_t;
-    let c = s.s_c;
-    let tt = s.s_t2;
-    let cc = s.s_c2;
-    let tc = s.s_tc;
-    three(t);
-    three(c);
-    three(tt);
-    three(cc);
-    three(tc);
+    figures::series(s);
 }
 
 fn small() {
@@ -291,14 +224,14 @@ fn small() {
     let mut places = [7.0; 45];
     table::build(&target, &canvas, 2, 1, &mut places);
     show::text(b"built\n");
-    numbers(&places);
+    figures::wides(&places, 3);
     span(&places, 0, 1);
     span(&places, 0, 2);
     span(&places, 1, 2);
     let changed = [0.9f32, 0.8, 0.7, 0.6, float::of_bits32(0x7fc0_0000), 0.4];
     table::update_canvas_rows(&target, &changed, 2, 1, &mut places, 0, 0);
     show::text(b"updated, with a NaN\n");
-    numbers(&places);
+    figures::wides(&places, 3);
 }
 
 // The same pixels as 2 rows of 1: each row starts afresh.
@@ -308,7 +241,7 @@ fn tall() {
     let mut places = [7.0; 60];
     table::build(&target, &canvas, 1, 2, &mut places);
     show::text(b"built, 2 rows\n");
-    numbers(&places);
+    figures::wides(&places, 3);
 }
 
 fn main() {

@@ -5,17 +5,17 @@ use borrow.Author.Needs.{needs}
 use Rattle.run_paint.proofs.both.Statement.{statement}
 use Rattle.run_paint.proofs.both.Tie as tie
 
-slice-aggregate-fill : tie.Need-slice-aggregate-fill
-slice-aggregate-fill c = search needs
+slice-aggregate-slope : tie.Need-slice-aggregate-slope
+slice-aggregate-slope c = search needs
 
-fill-requires : tie.Need-fill-requires
-fill-requires c κs = search needs
+slope-requires : tie.Need-slope-requires
+slope-requires c κs = search needs
 
-slice-aggregate-fill-2 : tie.Need-slice-aggregate-fill-2
-slice-aggregate-fill-2 c = search needs
+slice-aggregate-slope-2 : tie.Need-slice-aggregate-slope-2
+slice-aggregate-slope-2 c = search needs
 
-fill-requires-2 : tie.Need-fill-requires-2
-fill-requires-2 c κs = search needs
+slope-requires-2 : tie.Need-slope-requires-2
+slope-requires-2 c κs = search needs
 
 slice-aggregate-build : tie.Need-slice-aggregate-build
 slice-aggregate-build c = search needs
@@ -102,10 +102,10 @@ pub both-spec : {M : Type 1} → statement M
 both-spec =
     tie.close
     (tie.spec
-    slice-aggregate-fill
-    fill-requires
-    slice-aggregate-fill-2
-    fill-requires-2
+    slice-aggregate-slope
+    slope-requires
+    slice-aggregate-slope-2
+    slope-requires-2
     slice-aggregate-build
     slice-aggregate-build-2
     slice-aggregate-build-3
