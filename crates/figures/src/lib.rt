@@ -57,21 +57,12 @@ pub fn numbers(xs: &[f32], across: usize) {
     }
 }
 
-// The same of f64.
-pub fn wides(xs: &[f64], across: usize) {
-    let mut k = 0;
-    for i in 0..xs.len() {
-        wide(xs[i]);
-        k += 1;
-        if k == across {
-            show::text(b"\n");
-            k = 0;
-        }
-    }
-}
-
-fn three(xs: [f64; 3]) {
-    wides(&xs, 3);
+// A line of three f64.
+pub fn three(xs: [f64; 3]) {
+    wide(xs[0]);
+    wide(xs[1]);
+    wide(xs[2]);
+    show::text(b"\n");
 }
 
 // The five sums, a line each.

@@ -90,48 +90,47 @@ fn asked(w: usize, h: usize, nt: usize, nc: usize, n: usize, pt: f32, pc: f32) {
     show::hex(float::bits32(pc) as u64, 8);
 }
 
-fn build_on(target: &[f32], canvas: &[f32], w: usize, h: usize, places: &mut [f64]) {
-    let no = table::build(target, canvas, w, h, places);
-    answer(no, places);
+fn call(update: bool, target: &[f32], canvas: &[f32], w: usize, h: usize, places: &mut [f64]) {
+    if update {
+        let updated = table::update_canvas_rows(target, canvas, w, h, places, 0, 2);
+        answer(updated, places);
+        return;
+    }
+    let built = table::build(target, canvas, w, h, places);
+    answer(built, places);
 }
 
-fn update_on(target: &[f32], canvas: &[f32], w: usize, h: usize, places: &mut [f64]) {
-    let no = table::update_canvas_rows(target, canvas, w, h, places, 0, 2);
-    answer(no, places);
+fn ask(update: bool, w: usize, h: usize, nt: usize, nc: usize, n: usize, pt: f32, pc: f32) {
+    let mut target = [0.5f32; 20];
+    let mut canvas = [0.25f32; 20];
+    let mut places = [MARK; 150];
+    target[3] = pt;
+    canvas[17] = pc;
+    asked(w, h, nt, nc, n, pt, pc);
+    if nt <= 20 {
+        if nc <= 20 {
+            if n <= 150 {
+                call(
+                    update,
+                    &target[0..nt],
+                    &canvas[0..nc],
+                    w,
+                    h,
+                    &mut places[0..n],
+                );
+            }
+        }
+    }
 }
 
 fn build(w: usize, h: usize, nt: usize, nc: usize, n: usize, pt: f32, pc: f32) {
-    let mut target = [0.5f32; 20];
-    let mut canvas = [0.25f32; 20];
-    let mut places = [MARK; 150];
-    target[3] = pt;
-    canvas[17] = pc;
     show::text(b"build ");
-    asked(w, h, nt, nc, n, pt, pc);
-    if nt <= 20 {
-        if nc <= 20 {
-            if n <= 150 {
-                build_on(&target[0..nt], &canvas[0..nc], w, h, &mut places[0..n]);
-            }
-        }
-    }
+    ask(false, w, h, nt, nc, n, pt, pc);
 }
 
 fn refresh(w: usize, h: usize, nt: usize, nc: usize, n: usize, pt: f32, pc: f32) {
-    let mut target = [0.5f32; 20];
-    let mut canvas = [0.25f32; 20];
-    let mut places = [MARK; 150];
-    target[3] = pt;
-    canvas[17] = pc;
     show::text(b"update ");
-    asked(w, h, nt, nc, n, pt, pc);
-    if nt <= 20 {
-        if nc <= 20 {
-            if n <= 150 {
-                update_on(&target[0..nt], &canvas[0..nc], w, h, &mut places[0..n]);
-            }
-        }
-    }
+    ask(true, w, h, nt, nc, n, pt, pc);
 }
 
 fn builds() {
@@ -218,20 +217,39 @@ fn span(table: &[f64], left: usize, right: usize) {
     figures::series(s);
 }
 
+// The fifteen sums of a place.
+fn place(p: &[f64]) {
+    if p.len() != 15 {
+        return;
+    }
+    figures::three([p[0], p[1], p[2]]);
+    figures::three([p[3], p[4], p[5]]);
+    figures::three([p[6], p[7], p[8]]);
+    figures::three([p[9], p[10], p[11]]);
+    figures::three([p[12], p[13], p[14]]);
+}
+
+fn three_places(p: &[f64; 45]) {
+    let s = &p[..];
+    place(&s[0..15]);
+    place(&s[15..30]);
+    place(&s[30..45]);
+}
+
 fn small() {
     let target = [0.1f32, 0.2, 0.3, 0.7, 0.9, -0.0];
     let canvas = [0.5f32, 0.25, -0.0, 0.3, 0.6, 1.0];
     let mut places = [7.0; 45];
     table::build(&target, &canvas, 2, 1, &mut places);
     show::text(b"built\n");
-    figures::wides(&places, 3);
+    three_places(&places);
     span(&places, 0, 1);
     span(&places, 0, 2);
     span(&places, 1, 2);
     let changed = [0.9f32, 0.8, 0.7, 0.6, float::of_bits32(0x7fc0_0000), 0.4];
     table::update_canvas_rows(&target, &changed, 2, 1, &mut places, 0, 0);
     show::text(b"updated, with a NaN\n");
-    figures::wides(&places, 3);
+    three_places(&places);
 }
 
 // The same pixels as 2 rows of 1: each row starts afresh.
@@ -241,7 +259,10 @@ fn tall() {
     let mut places = [7.0; 60];
     table::build(&target, &canvas, 1, 2, &mut places);
     show::text(b"built, 2 rows\n");
-    figures::wides(&places, 3);
+    place(&places[0..15]);
+    place(&places[15..30]);
+    place(&places[30..45]);
+    place(&places[45..60]);
 }
 
 fn main() {
