@@ -6,7 +6,10 @@ ghost use Rattle.score.specs.Finalize.{
   errorBefore,
   colourOf,
   errorAfter,
+  overChannels,
+  beforeAt,
   noScore,
+  finalized,
   FinalizeSays,
 };
 ghost use Rattle.score.specs.Swept.{swept};
@@ -79,25 +82,36 @@ fn no_score(opacity: f32, count: u32) -> Score
     }
 }
 
-struct Channel {
-    before: f64,
-    after: f64,
+// What a channel's error becomes. Narrowing stands apart, so that this is inlined and what the channels share is worked out once.
+fn weigh(t: f64, c: f64, tt: f64, cc: f64, tc: f64, a: f64, m: f64, p: f32, n: f64) -> f64
+    ensures { λ r. ⌜ r ≡ errorAfter tt tc cc t c a m p n ⌝ }
+{
+    error_after(tt, tc, cc, t, c, a, m, float::widen(p), n)
 }
 
-// One channel's error without and with its colour. Narrowing stands apart, so that this is inlined and what the channels share is
-// worked out once.
-fn weigh(t: f64, c: f64, tt: f64, cc: f64, tc: f64, a: f64, m: f64, p: f32, n: f64) -> Channel
-    ensures { λ r. ⌜ (r .before ≡ errorBefore tt tc cc) × (r .after ≡ errorAfter tt tc cc t c a m p n) ⌝ }
+// The errors as they are, over the channels: the same at every opacity.
+fn all_before(s: ShapeSums) -> f64
+    ensures { λ r. ⌜ r ≡ overChannels (beforeAt s) ⌝ }
 {
-    Channel {
-        before: error_before(tt, tc, cc),
-        after: error_after(tt, tc, cc, t, c, a, m, float::widen(p), n),
-    }
+    let tt = s.s_t2;
+    let cc = s.s_c2;
+    let tc = s.s_tc;
+    let first = error_before(tt[0], tc[0], cc[0]);
+    let second = error_before(tt[1], tc[1], cc[1]);
+    let third = error_before(tt[2], tc[2], cc[2]);
+    0.0 + first + second + third
 }
 
 // The change and the colour at an opacity, from the sums alone: one geometry is scored at many opacities.
 pub fn finalize(s: ShapeSums, opacity: f32) -> Score
     ensures { λ r. ⌜ FinalizeSays s opacity r ⌝ }
+{
+    finalize_from(s, opacity, all_before(s))
+}
+
+fn finalize_from(s: ShapeSums, opacity: f32, before: f64) -> Score
+    requires { ⌜ before ≡ overChannels (beforeAt s) ⌝ }
+    ensures { λ r. ⌜ r ≡ finalized s opacity ⌝ }
 {
     let count = s.count;
     if count == 0 {
@@ -117,8 +131,7 @@ pub fn finalize(s: ShapeSums, opacity: f32) -> Score
     let first = weigh(t[0], c[0], tt[0], cc[0], tc[0], a, m, red, n);
     let second = weigh(t[1], c[1], tt[1], cc[1], tc[1], a, m, green, n);
     let third = weigh(t[2], c[2], tt[2], cc[2], tc[2], a, m, blue, n);
-    let before = 0.0 + first.before + second.before + third.before;
-    let after = 0.0 + first.after + second.after + third.after;
+    let after = 0.0 + first + second + third;
     Score {
         opacity: opacity,
         count: count,
@@ -138,9 +151,10 @@ fn sweep(s: ShapeSums, levels: &[f32], n: usize) -> Score
     let count = s.count;
     let mut best = no_score(levels[0], count);
     let mut lowest = 1.0 / 0.0;
+    let before = all_before(s);
     let mut i = 0;
     while i < n {
-        let score = finalize(s, levels[i]);
+        let score = finalize_from(s, levels[i], before);
         if score.change < lowest {
             lowest = score.change;
             best = score;

@@ -13,11 +13,11 @@ use Rattle.score.proofs.sweep.Statement.{statement}
 use Rattle.score.proofs.sweep.Tie as tie
 
 abbrev Inv-loop : tie.InvT-loop
-Inv-loop s levels n count best₀ lowest₀ i₀ best lowest i =
+Inv-loop s levels n count before best₀ lowest₀ i₀ best lowest i =
     (i ≤ n) × (best ≡ sweptAt s levels (bestOf (changeOf s levels) i)) × (lowest ≡ changeAt (changeOf s levels) (bestOf (changeOf s levels) i))
 
 abbrev μ-loop : tie.MeasureT-loop
-μ-loop s levels n count best₀ lowest₀ i₀ best lowest i = n - i
+μ-loop s levels n count before best₀ lowest₀ i₀ best lowest i = n - i
 
 shared-slice-read-no-score : tie.Need-shared-slice-read-no-score Inv-loop μ-loop
 shared-slice-read-no-score c = search needs
@@ -25,18 +25,21 @@ shared-slice-read-no-score c = search needs
 no-score-requires : tie.Need-no-score-requires Inv-loop μ-loop
 no-score-requires c κs = search needs
 
+all-before-requires : tie.Need-all-before-requires Inv-loop μ-loop
+all-before-requires c κs = search needs
+
 loop-holds : tie.Need-loop-holds Inv-loop μ-loop
 unfolding bestOf ofBits div
-loop-holds c = (omega arith, c .no-score .ensures, refl)
+loop-holds c = (omega arith, c .before .no-score .ensures, refl)
 
-mul-finalize : tie.Need-mul-finalize Inv-loop μ-loop
-mul-finalize c = search needs
+mul-finalize-from : tie.Need-mul-finalize-from Inv-loop μ-loop
+mul-finalize-from c = search needs
 
-shared-slice-read-finalize : tie.Need-shared-slice-read-finalize Inv-loop μ-loop
-shared-slice-read-finalize c = search needs
+shared-slice-read-finalize-from : tie.Need-shared-slice-read-finalize-from Inv-loop μ-loop
+shared-slice-read-finalize-from c = search needs
 
-finalize-requires : tie.Need-finalize-requires Inv-loop μ-loop
-finalize-requires c κs = search needs
+finalize-from-requires : tie.Need-finalize-from-requires Inv-loop μ-loop
+finalize-from-requires c κs = search needs
 
 add-i : tie.Need-add-i Inv-loop μ-loop
 add-i c = search needs
@@ -48,18 +51,18 @@ loop-again : tie.Need-loop-again Inv-loop μ-loop
 loop-again c =
     let f = c .before .before in
     let l = f .before .before .before .loop in
-    let g = f .before .before .before .before .before .before .before .args in
+    let g = f .before .before .before .before .before .before .before .before .args in
     let ch = changeOf (g .s) (g .levels .now) in
     let bound : l .i + 1 ≤ g .n = omega arith in
     ⊎-elim
     (λ w.
-    let e = bestOf-taken ch (l .i) (rw (f .finalize .ensures, l .inv .2) at (w .0 .taken)) in (
+    let e = bestOf-taken ch (l .i) (rw (f .finalize-from .ensures, l .inv .2) at (w .0 .taken)) in (
       bound,
-      w .1 ∙ f .finalize .ensures ∙ ap (sweptAt (g .s) (g .levels .now)) (sym e),
-      w .2 ∙ ap (λ (r : Score). r .change) (f .finalize .ensures) ∙ ap (changeAt ch) (sym e),
+      w .1 ∙ f .finalize-from .ensures ∙ ap (sweptAt (g .s) (g .levels .now)) (sym e),
+      w .2 ∙ ap (λ (r : Score). r .change) (f .finalize-from .ensures) ∙ ap (changeAt ch) (sym e),
     ))
     (λ w.
-    let e = bestOf-kept ch (l .i) (rw (f .finalize .ensures, l .inv .2) at (w .0 .left)) in
+    let e = bestOf-kept ch (l .i) (rw (f .finalize-from .ensures, l .inv .2) at (w .0 .left)) in
     (bound, w .1 ∙ l .inv .1 ∙ ap (sweptAt (g .s) (g .levels .now)) (sym e), w .2 ∙ l .inv .2 ∙ ap (changeAt ch) (sym e)))
     (c .if1 .came)
 
@@ -67,7 +70,7 @@ returns : tie.Need-returns Inv-loop μ-loop
 unfolding swept
 returns c =
     let l = c .before .loop in
-    let g = c .before .before .before .before .before .args in
+    let g = c .before .before .before .before .before .before .args in
     let e : l .i ≡ g .n = omega arith in
     l .inv .1 ∙ ap (λ (k : ℕ). sweptAt (g .s) (g .levels .now) (bestOf (changeOf (g .s) (g .levels .now)) k)) e
 
@@ -79,10 +82,11 @@ sweep-spec =
     μ-loop
     shared-slice-read-no-score
     no-score-requires
+    all-before-requires
     loop-holds
-    mul-finalize
-    shared-slice-read-finalize
-    finalize-requires
+    mul-finalize-from
+    shared-slice-read-finalize-from
+    finalize-from-requires
     add-i
     loop-less
     loop-again

@@ -5,9 +5,6 @@ use borrow.Author.Needs.{needs}
 use Rattle.score.proofs.weigh.Statement.{statement}
 use Rattle.score.proofs.weigh.Tie as tie
 
-error-before-requires : tie.Need-error-before-requires
-error-before-requires c κs = search needs
-
 widen-requires : tie.Need-widen-requires
 widen-requires c κs = search needs
 
@@ -16,9 +13,9 @@ error-after-requires c κs = search needs
 
 returns : tie.Need-returns
 returns c =
-    (c .before .before .error-before .ensures, simp (c .before .widen .ensures) at (c .error-after .ensures))
+    simp (c .before .widen .ensures) at (c .error-after .ensures)
 
 pub weigh-spec : {M : Type 1} → statement M
 weigh-spec =
     tie.close
-    (tie.spec error-before-requires widen-requires error-after-requires returns)
+    (tie.spec widen-requires error-after-requires returns)
