@@ -19,10 +19,14 @@ fn numbers_in(xs: &[f32], a: usize, e: usize) -> bool
     float::all_numbers(&xs[a..e])
 }
 
+// The same of two pictures. A run of less than eight pixels is not looked through: that would cost more than it saves.
 fn both_numbers(target: &[f32], canvas: &[f32], a: usize, e: usize) -> bool
     requires { ⌜ (a ≤ e) × (e ≤ length (now target)) × (e ≤ length (now canvas)) ⌝ }
     ensures { λ r. ⌜ (r ≡ true → NumbersIn (now (target .entry)) a e × NumbersIn (now (canvas .entry)) a e) ⌝ }
 {
+    if e - a < 24 {
+        return false;
+    }
     if numbers_in(target, a, e) {
         return numbers_in(canvas, a, e);
     }
@@ -71,7 +75,7 @@ fn push_pixel(target: &[f32], canvas: &[f32], at: usize, numbers: bool, s: Shape
     push_any(target, canvas, at, s)
 }
 
-// Pixels left <= x < right of row y. Looking for a NaN in all of them first is cheaper than in each.
+// Pixels left <= x < right of row y. Looking for a NaN in all of them first is cheaper than in each by itself.
 fn push_row(
     target: &[f32],
     canvas: &[f32],
