@@ -1,7 +1,7 @@
--- Laws: painting by the numbers of a picture: each new number comes of the old one alone, and numbers above the rows that a shape reaches stay.
+-- Laws: painting by the numbers of a picture: each new number comes of the old one alone, and those of rows that a shape does not reach stay.
 use mathlib.Core.Path.{_≡_, refl, sym, ap, _∙_, subst}
-use mathlib.Core.Bool.{Bool, false, cond}
-use mathlib.Core.Logic.{_⊎_, inl}
+use mathlib.Core.Bool.{Bool, cond}
+use mathlib.Core.Logic.{_⊎_, inl, inr, ⊎-elim}
 use mathlib.Core.List.{List}
 use Prim.Native.Nat.{ℕ, _+_, _*_, _/_, _%_, _≤_, _<_}
 use native.Mathlib.Nat.{mod-lt}
@@ -10,7 +10,8 @@ use lib.ListN.{getD}
 use lib.Ieee.{Float, nan}
 use Rattle.laws.specs.RowSums.{pictureOf}
 use Rattle.laws.specs.Pictures.{channelOf, recoloured}
-use Rattle.laws.specs.PictureLaws.{list-number, number-back, row-in-picture}
+use Rattle.laws.specs.PictureLaws.{list-number, number-back, number-in, row-in-picture}
+use Rattle.laws.specs.StrokeLaws.{le-or-lt}
 use Rattle.laws.specs.EndsLaws.{Ended, ended}
 use Rattle.cover.specs.declared.Kind.{Kind}
 use Rattle.cover.specs.Cover.{covered}
@@ -32,16 +33,21 @@ module _ (kind : Kind) (opacity red green blue : Float) (w h i : ℕ) (columns :
   pub painted-agrees : (p q : List Float) → getD p i nan ≡ getD q i nan → getD (painted kind opacity red green blue w h p) i nan ≡ getD (painted kind opacity red green blue w h q) i nan
   painted-agrees p q e = painted-number p ∙ ap recolour e ∙ sym (painted-number q)
 
-  -- a number of the rows before the shape's first
-  pub painted-above : (old : List Float) (n : ℕ) → n ≤ h → n ≤ reachRows kind h .top → i < n * w * 3 → getD (painted kind opacity red green blue w h old) i nan ≡ getD old i nan
-  painted-above old n high above l =
+  -- a number of a row that the shape does not reach
+  spared : (old : List Float) → (i / 3 / w < reachRows kind h .top) ⊎ (reachRows kind h .bottom ≤ i / 3 / w) → getD (painted kind opacity red green blue w h old) i nan ≡ getD old i nan
+  spared old out =
       painted-number old
-      ∙ ap (λ (b : Bool). cond b (blended opacity (channelOf red green blue (i % 3)) (getD old i nan)) (getD old i nan)) bare
-    where
-      row : i / 3 / w < n
-      row = row-in-picture w n i columns l
+      ∙ ap (λ (b : Bool). cond b (blended opacity (channelOf red green blue (i % 3)) (getD old i nan)) (getD old i nan))
+      (subst (Ended (λ x. covered kind x (i / 3 / w)) w) (through kind h .outside w (i / 3 / w) (row-in-picture w h i columns inside) out) (ended (λ x. covered kind x (i / 3 / w)) w)
+      (i / 3 % w) (mod-lt (i / 3) columns))
 
-      bare : covered kind (i / 3 % w) (i / 3 / w) ≡ false
-      bare =
-          subst (Ended (λ x. covered kind x (i / 3 / w)) w) (through kind h .outside w (i / 3 / w) (omega (arith, row)) (inl (omega (arith, row)))) (ended (λ x. covered kind x (i / 3 / w)) w)
-          (i / 3 % w) (mod-lt (i / 3) columns)
+  -- above the first row that it reaches
+  pub painted-above : (old : List Float) (n : ℕ) → n ≤ reachRows kind h .top → i < n * w * 3 → getD (painted kind opacity red green blue w h old) i nan ≡ getD old i nan
+  painted-above old n above l = spared old (inl (omega (arith, row-in-picture w n i columns l)))
+
+  -- and below the last
+  pub painted-below : (old : List Float) (n : ℕ) → reachRows kind h .bottom ≤ n → n * w * 3 ≤ i → getD (painted kind opacity red green blue w h old) i nan ≡ getD old i nan
+  painted-below old n below l = spared old (inr (⊎-elim (λ (k : n ≤ i / 3 / w). omega (arith, k)) (λ (k : i / 3 / w < n). absurd (high k)) (le-or-lt n (i / 3 / w))))
+    where
+      high : i / 3 / w < n → ⊥
+      high k = omega (arith, number-back w h i columns, number-in w n (i / 3 / w) (i / 3 % w) (i % 3) (mod-lt i (omega arith)) k (mod-lt (i / 3) columns))

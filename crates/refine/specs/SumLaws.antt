@@ -9,8 +9,8 @@ use native.Mathlib.Numerals.{add-one}
 use native.Mathlib.Omega.{arith}
 use lib.Dec.{T}
 use lib.Ieee.{Float, nan}
-use lib.ListN.{length, getD, set, take}
-use lib.Seq.{slice, drop-cons, getD-take, length-take-le, getD-set-same, getD-set-other}
+use lib.ListN.{length, getD, set, take, List·getD-eq-default}
+use lib.Seq.{slice, drop-cons, getD-take, length-take-le, getD-set-same, getD-set-other, ext-getD}
 use Rattle.laws.specs.Every.{every}
 use Rattle.laws.specs.EveryLaws.{every-each}
 use Rattle.laws.specs.StrokeLaws.{le-or-lt}
@@ -20,7 +20,8 @@ use Rattle.cover.specs.ReachRows.{reachRows}
 use Rattle.picture.specs.Pixels.{totalOf}
 use Rattle.picture.specs.Rows.{totalOn}
 use Rattle.picture.specs.RowTotals.{on-none, on-both, on-all, on-same}
-use Rattle.picture.specs.Places.{painted-agrees, painted-above}
+use Rattle.picture.specs.PaintingLaws.{length-painted}
+use Rattle.picture.specs.Places.{painted-agrees, painted-above, painted-below}
 use Rattle.shapes.specs.declared.Shape.{Shape}
 use Rattle.shapes.specs.declared.Shapes.{Shapes}
 use Rattle.shapes.specs.Blank.{blank}
@@ -81,6 +82,16 @@ sums-more w target canvas p sums top y v low room same e so-far z h = ⊎-elim p
 pub sums-last : (w h : ℕ) (target p : List Float) (s : Sums) → length target ≡ h * w * 3 → summing w h target p s → getD (s .rows) h nan ≡ totalOf target p
 sums-last w h target p s e all = all h (omega arith) ∙ on-all target p (h * w * 3) (sym e)
 
+-- ---- pictures that are the same from a number on
+pub same-whole : (w : ℕ) (p q : List Float) → length p ≡ length q → SameFrom (0 * w * 3) p q → p ≡ q
+same-whole w p q e same = ext-getD nan p q e (λ i l. same i (omega (arith, zero-mul w)))
+
+-- a picture with shapes painted on it has its length
+pub painted-on-length : (w h : ℕ) (l : List Shape) (p : List Float) → length p ≡ h * w * 3 → length (paintedOn (shapePainted w h) p l) ≡ h * w * 3
+unfolding paintedOn
+painted-on-length w h [] p e = e
+painted-on-length w h (s ∷ l) p e = painted-on-length w h l (shapePainted w h s p) (length-painted (s .kind) (s .opacity) (s .red) (s .green) (s .blue) w h p)
+
 -- ---- a trial
 module _ (w h : ℕ) (columns : 0 < w) where
   -- pictures that agree at a number still do after more shapes
@@ -91,13 +102,42 @@ module _ (w h : ℕ) (columns : 0 < w) where
   painted-on-agrees i k (s ∷ l) p q e =
       painted-on-agrees i k l (shapePainted w h s p) (shapePainted w h s q) (painted-agrees (s .kind) (s .opacity) (s .red) (s .green) (s .blue) w h i columns k p q e)
 
+  -- and so do their numbers from n on
+  pub painted-on-same : (n : ℕ) (l : List Shape) (p q : List Float) → length p ≡ h * w * 3 → length q ≡ h * w * 3 → SameFrom n p q → SameFrom n (paintedOn (shapePainted w h) p l) (paintedOn (shapePainted w h) q l)
+  painted-on-same n l p q e f same i k =
+      ⊎-elim
+      (λ (past : h * w * 3 ≤ i).
+      List·getD-eq-default (paintedOn (shapePainted w h) p l) nan (omega (arith, painted-on-length w h l p e))
+      ∙ sym (List·getD-eq-default (paintedOn (shapePainted w h) q l) nan (omega (arith, painted-on-length w h l q f))))
+      (λ (inside : i < h * w * 3). painted-on-agrees i inside l p q (same i k))
+      (le-or-lt (h * w * 3) i)
+
+  -- one shape more, of which only the rows from `top` on count
+  pub part-same : (top : ℕ) (l : List Shape) (p old new q : List Float) (s : Shape) → length old ≡ h * w * 3 → length p ≡ h * w * 3 → SameFrom (top * w * 3) old (paintedOn (shapePainted w h) p l)
+      → SameFrom (top * w * 3) new (shapePainted w h s old) → shapePainted w h s (paintedOn (shapePainted w h) p l) ≡ q → SameFrom (top * w * 3) new q
+  unfolding paintedOn
+  part-same top l p old new q s e f same one all i k =
+      one i k
+      ∙ painted-on-same (top * w * 3) (s ∷ []) old (paintedOn (shapePainted w h) p l) e (painted-on-length w h l p f) same i k
+      ∙ ap (λ (r : List Float). getD r i nan) all
+
+  -- a shape that ends above
+  pub under-same : (top : ℕ) (s : Shape) (p : List Float) → length p ≡ h * w * 3 → reachRows (s .kind) h .bottom ≤ top → SameFrom (top * w * 3) p (shapePainted w h s p)
+  under-same top s p e below i k =
+      ⊎-elim
+      (λ (past : h * w * 3 ≤ i).
+      List·getD-eq-default p nan (omega (arith, e))
+      ∙ sym (List·getD-eq-default (shapePainted w h s p) nan (omega (arith, length-painted (s .kind) (s .opacity) (s .red) (s .green) (s .blue) w h p))))
+      (λ (inside : i < h * w * 3). sym (painted-below (s .kind) (s .opacity) (s .red) (s .green) (s .blue) w h i columns inside p top below k))
+      (le-or-lt (h * w * 3) i)
+
   module _ (first : List Float) (y x : Shape) (l : List Shape) (top : ℕ) (high : top ≤ h) (before-y : top ≤ reachRows (y .kind) h .top) (before-x : top ≤ reachRows (x .kind) h .top) where
     trial-above : (i : ℕ) → i < top * w * 3 → getD (paintedOn (shapePainted w h) first (y ∷ l)) i nan ≡ getD (shapePainted w h x (paintedOn (shapePainted w h) first l)) i nan
     unfolding paintedOn
     trial-above i k =
         let inside : i < h * w * 3 = omega (arith, mul-le-mul-right w high) in
-        painted-on-agrees i inside l (shapePainted w h y first) first (painted-above (y .kind) (y .opacity) (y .red) (y .green) (y .blue) w h i columns inside first top high before-y k)
-        ∙ sym (painted-above (x .kind) (x .opacity) (x .red) (x .green) (x .blue) w h i columns inside (paintedOn (shapePainted w h) first l) top high before-x k)
+        painted-on-agrees i inside l (shapePainted w h y first) first (painted-above (y .kind) (y .opacity) (y .red) (y .green) (y .blue) w h i columns inside first top before-y k)
+        ∙ sym (painted-above (x .kind) (x .opacity) (x .red) (x .green) (x .blue) w h i columns inside (paintedOn (shapePainted w h) first l) top before-x k)
 
     pub trial-sums : (target : List Float) (s : Sums) → summing w h target (paintedOn (shapePainted w h) first (y ∷ l)) s
         → SummedTo w top target (shapePainted w h x (paintedOn (shapePainted w h) first l)) (s .rows)

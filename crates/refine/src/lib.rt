@@ -64,15 +64,35 @@ fn paint(w: usize, h: usize, s: Shape, canvas: &mut [f32])
     picture::blend(kind, s.opacity, s.red, s.green, s.blue, w, h, canvas);
 }
 
-// The shapes from `from` up to `to` of the list, in their order.
-fn paint_part(w: usize, h: usize, list: Shapes, from: usize, to: usize, canvas: &mut [f32])
+// The same for the rows from `top` on: those above are left as they are, or painted. A shape that ends above `top` costs nothing.
+fn paint_under(w: usize, h: usize, s: Shape, top: usize, canvas: &mut [f32])
+    requires { ⌜ Sized w h × (length (now canvas) ≡ h * w * 3) × T (fits s) × T (allWithin (now canvas)) ⌝ }
+    ensures { λ _. ⌜ SameFrom (top * w * 3) (now (canvas .exit)) (shapePainted w h s (now (canvas .entry))) × T (allWithin (now (canvas .exit))) ⌝ }
+{
+    let kind = s.kind;
+    let rows = cover::reached::reach_rows(kind, h);
+    if top < rows.bottom {
+        paint(w, h, s, canvas);
+    }
+}
+
+// The shapes from `from` up to `to` of the list, in their order, for the rows from `top` on.
+fn paint_part(
+    w: usize,
+    h: usize,
+    list: Shapes,
+    from: usize,
+    to: usize,
+    top: usize,
+    canvas: &mut [f32],
+)
     requires { ⌜ Drawable w h list × (from ≤ to) × (to ≤ list .count) × (length (now canvas) ≡ h * w * 3) × T (allWithin (now canvas)) ⌝ }
-    ensures { λ _. ⌜ (now (canvas .exit) ≡ paintedOn (shapePainted w h) (now (canvas .entry)) (slice from to (list .items))) × T (allWithin (now (canvas .exit))) ⌝ }
+    ensures { λ _. ⌜ SameFrom (top * w * 3) (now (canvas .exit)) (paintedOn (shapePainted w h) (now (canvas .entry)) (slice from to (list .items))) × T (allWithin (now (canvas .exit))) ⌝ }
 {
     let mut i = from;
     while i < to {
         let x = list.items[i];
-        paint(w, h, x, canvas);
+        paint_under(w, h, x, top, canvas);
         i += 1;
     }
 }
@@ -94,7 +114,7 @@ fn draw(w: usize, h: usize, red: f32, green: f32, blue: f32, list: Shapes, canva
     ensures { λ _. ⌜ (now (canvas .exit) ≡ paintedOn (shapePainted w h) (filled w h red green blue) (slice 0 (list .count) (list .items))) × T (allWithin (now (canvas .exit))) ⌝ }
 {
     picture::fill(w, h, red, green, blue, canvas);
-    paint_part(w, h, list, 0, list.count, canvas);
+    paint_part(w, h, list, 0, list.count, 0, canvas);
 }
 
 // ---- totals
@@ -136,7 +156,8 @@ fn spared(h: usize, s: Shape, x: Shape) -> usize
 // ---- one trial
 
 // What is left of the shapes before j is painted on `first`, which has the first `made` of them. On `second` come those, the shapes
-// after j and the candidate: its sums are answered. Above the rows that shape j and the candidate reach they are those of the list.
+// after j and the candidate: its sums are answered. Above the rows that shape j and the candidate reach they are those of the list, and
+// a shape after j that ends there is not drawn.
 fn try_candidate(
     w: usize,
     h: usize,
@@ -156,12 +177,12 @@ fn try_candidate(
         × (summing w h (now (target .entry)) (paintedOn (shapePainted w h) (now (first .exit)) (slice j (list .count) (list .items))) sums
         → summing w h (now (target .entry)) (shapePainted w h x (paintedOn (shapePainted w h) (now (first .exit)) (slice (j + 1) (list .count) (list .items)))) r) ⌝ }
 {
-    paint_part(w, h, list, made, j, first);
-    copy(first, second);
-    paint_part(w, h, list, j + 1, list.count, second);
-    paint(w, h, x, second);
     let old = list.items[j];
     let top = spared(h, old, x);
+    paint_part(w, h, list, made, j, 0, first);
+    copy(first, second);
+    paint_part(w, h, list, j + 1, list.count, top, second);
+    paint(w, h, x, second);
     sum_rows(w, h, target, second, top, sums)
 }
 

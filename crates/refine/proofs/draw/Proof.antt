@@ -10,6 +10,7 @@ use Rattle.float.specs.Within.{allWithin}
 use Rattle.picture.specs.PixelLaws.{filled-within}
 use Rattle.refine.specs.Refinement.{paintedOn}
 use Rattle.refine.specs.Scenes.{shapePainted}
+use Rattle.refine.specs.SumLaws.{same-whole, painted-on-length}
 use Rattle.refine.proofs.draw.Statement.{statement}
 use Rattle.refine.proofs.draw.Tie as tie
 
@@ -33,9 +34,17 @@ same-length c = search needs
 
 returns : tie.Need-returns
 returns c =
-    let a = c .before .before .before .before .before .before .before .before .before .args in
-    let p = c .before .before .paint-part .ensures in
-    (p .0 ∙ ap (λ (q : List Float). paintedOn (shapePainted (a .w) (a .h)) q (slice 0 (a .list .count) (a .list .items))) (c .before .before .before .before .before .before .fill .ensures), p .1)
+    let s = c .before .before .before .before .before .before .before .before .before in
+    let a = s .args in
+    let f = c .before .before .before .before .before .before .fill in
+    let filled-canvas = f .last .1 .1 .1 .1 .1 .0 in
+    let p = c .before .before .paint-part in
+    let list = slice 0 (a .list .count) (a .list .items) in
+    let long = f .kept .1 .1 .1 .1 .1 .0 ∙ s .pre .2 in (
+      same-whole (a .w) (p .last .1 .1 .1 .1 .1 .1 .0) (paintedOn (shapePainted (a .w) (a .h)) filled-canvas list) (p .kept .1 .1 .1 .1 .1 .1 .0 ∙ long ∙ sym (painted-on-length (a .w) (a .h) list filled-canvas long)) (p .ensures .0)
+          ∙ ap (λ (q : List Float). paintedOn (shapePainted (a .w) (a .h)) q list) (f .ensures),
+      p .ensures .1,
+    )
 
 pub draw-spec : {M : Type 1} → statement M
 draw-spec = tie.close (tie.spec fill-requires paint-part-requires same-length returns)

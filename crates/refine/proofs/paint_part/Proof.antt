@@ -1,31 +1,34 @@
 -- The loop carries the part painted so far; a shape below the count fits.
 use borrow.Author.Needs.{needs}
-use mathlib.Core.Path.{_≡_, ap, _∙_}
-use Prim.Native.Nat.{ℕ, _≤_, _<_, _-_, _+_}
+use mathlib.Core.Path.{_≡_, refl, ap, subst, _∙_}
+use mathlib.Core.List.{List}
+use Prim.Native.Nat.{ℕ, _≤_, _+_, _-_, _*_}
 use lib.Dec.{T}
-use lib.ListN.{length, length-map}
+use lib.Ieee.{Float, nan}
+use lib.ListN.{length, getD, length-map}
 use lib.Seq.{slice}
 use Rattle.float.specs.Within.{allWithin}
 use Rattle.shapes.specs.Blank.{blank}
 use Rattle.refine.specs.Refinement.{paintedOn}
 use Rattle.refine.specs.Scenes.{shapePainted}
 use Rattle.refine.specs.PartLaws.{part-none, part-more}
-use Rattle.refine.specs.SumLaws.{shape-fits}
+use Rattle.refine.specs.Courses.{SameFrom}
+use Rattle.refine.specs.SumLaws.{shape-fits, part-same}
 use native.Mathlib.Omega.{arith}
 use Rattle.refine.proofs.paint_part.Statement.{statement}
 use Rattle.refine.proofs.paint_part.Tie as tie
 
 abbrev Inv-loop : tie.InvT-loop
-Inv-loop w h from to canvas₀ s i₀ canvas i =
-    (from ≤ i) × (i ≤ to) × (length canvas ≡ length canvas₀) × (canvas ≡ paintedOn (shapePainted w h) canvas₀ (slice from i (s .items))) × T (allWithin canvas)
+Inv-loop w h from to top canvas₀ s i₀ canvas i =
+    (from ≤ i) × (i ≤ to) × (length canvas ≡ length canvas₀) × SameFrom (top * w * 3) canvas (paintedOn (shapePainted w h) canvas₀ (slice from i (s .items))) × T (allWithin canvas)
 
 abbrev μ-loop : tie.MeasureT-loop
-μ-loop w h from to canvas₀ s i₀ canvas i = to - i
+μ-loop w h from to top canvas₀ s i₀ canvas i = to - i
 
 loop-holds : tie.Need-loop-holds Inv-loop μ-loop
 loop-holds c =
     let a = c .before .args in
-    (search needs, search needs, search needs, part-none (shapePainted (a .w) (a .h)) (a .canvas .now) (a .from) (a .t3 .items), c .before .pre .4)
+    (search needs, search needs, search needs, λ k l. ap (λ (q : List Float). getD q k nan) (part-none (shapePainted (a .w) (a .h)) (a .canvas .now) (a .from) (a .t3 .items)), c .before .pre .4)
 
 mul-x : tie.Need-mul-x Inv-loop μ-loop
 mul-x c = search needs
@@ -37,8 +40,8 @@ element-copy-out-x c = search needs
 len : (s : tie.Start Inv-loop μ-loop) → length (s .args .t3 .items) ≡ 64
 len s = simp length-map at (s .good .1 .1 .0 .1 .1 .0 .1 .0 .1)
 
-paint-requires : tie.Need-paint-requires Inv-loop μ-loop
-paint-requires c κs =
+paint-under-requires : tie.Need-paint-under-requires Inv-loop μ-loop
+paint-under-requires c κs =
     let l = c .before .before .before in
     let s = l .before .before in (
       search needs,
@@ -60,10 +63,11 @@ loop-again c =
     let a = s .args in (
       search needs,
       search needs,
-      c .before .before .paint .kept .1 .1 .1 .0 ∙ l .loop .inv .2,
-      c .before .before .paint .ensures .0
-          ∙ part-more (shapePainted (a .w) (a .h)) (a .canvas .now) (l .loop .canvas) (a .from) (l .loop .i) (a .t3 .items) blank (l .loop .inv .0) (omega (arith, len s)) (l .loop .inv .3),
-      c .before .before .paint .ensures .1,
+      c .before .before .paint-under .kept .1 .1 .1 .1 .0 ∙ l .loop .inv .2,
+      part-same (a .w) (a .h) (s .pre .0 .sized .w-low) (a .top) (slice (a .from) (l .loop .i) (a .t3 .items)) (a .canvas .now) (l .loop .canvas) (c .before .before .paint-under .last .1 .1 .1 .1 .0) (paintedOn (shapePainted (a .w) (a .h)) (a .canvas .now) (slice (a .from) (l .loop .i + 1) (a .t3 .items))) (getD (a .t3 .items) (l .loop .i) blank) (l .loop .inv .2 ∙ s .pre .3) (s .pre .3) (l .loop .inv .3)
+          (c .before .before .paint-under .ensures .0)
+          (part-more (shapePainted (a .w) (a .h)) (a .canvas .now) (paintedOn (shapePainted (a .w) (a .h)) (a .canvas .now) (slice (a .from) (l .loop .i) (a .t3 .items))) (a .from) (l .loop .i) (a .t3 .items) blank (l .loop .inv .0) (omega (arith, len s)) refl),
+      c .before .before .paint-under .ensures .1,
     )
 
 same-length : tie.Need-same-length Inv-loop μ-loop
@@ -74,7 +78,7 @@ returns c =
     let l = c .before in
     let a = l .before .before .args in
     let e : l .loop .i ≡ a .to = omega arith in
-    (l .loop .inv .3 ∙ ap (λ (k : ℕ). paintedOn (shapePainted (a .w) (a .h)) (a .canvas .now) (slice (a .from) k (a .t3 .items))) e, l .loop .inv .4)
+    (subst (λ (k : ℕ). SameFrom (a .top * a .w * 3) (l .loop .canvas) (paintedOn (shapePainted (a .w) (a .h)) (a .canvas .now) (slice (a .from) k (a .t3 .items)))) e (l .loop .inv .3), l .loop .inv .4)
 
 pub paint-part-spec : {M : Type 1} → statement M
 paint-part-spec =
@@ -85,7 +89,7 @@ paint-part-spec =
     loop-holds
     mul-x
     element-copy-out-x
-    paint-requires
+    paint-under-requires
     add-i
     loop-less
     loop-again

@@ -1,8 +1,8 @@
 -- What painting, copying and the sums ensure, one after the other.
 use borrow.Author.Needs.{needs}
-use mathlib.Core.Path.{_≡_, sym, ap, subst, _∙_}
+use mathlib.Core.Path.{_≡_, refl, sym, ap, subst, _∙_}
 use mathlib.Core.List.{List}
-use Prim.Native.Nat.{_+_}
+use Prim.Native.Nat.{_+_, _*_}
 use native.Mathlib.Omega.{arith}
 use lib.Dec.{T}
 use lib.Ieee.{Float, nan}
@@ -13,14 +13,25 @@ use Rattle.shapes.specs.declared.Shape.{Shape}
 use Rattle.shapes.specs.Blank.{blank}
 use Rattle.refine.specs.Refinement.{paintedOn}
 use Rattle.refine.specs.Scenes.{shapePainted}
-use Rattle.refine.specs.Courses.{summing}
-use Rattle.refine.specs.SumLaws.{shape-fits, slice-first, trial-sums}
+use Rattle.refine.specs.Courses.{SameFrom, summing}
+use Rattle.refine.specs.SumLaws.{shape-fits, slice-first, same-whole, painted-on-length, part-same, trial-sums}
 use Rattle.refine.proofs.try_candidate.Statement.{statement}
 use Rattle.refine.proofs.try_candidate.Tie as tie
 
 -- an array's length is among what owning the parameter tells
 len : (s : tie.Start) → length (s .args .t4 .items) ≡ 64
 len s = simp length-map at (s .good .1 .1 .1 .0 .1 .1 .0 .1 .0 .1)
+
+mul-old : tie.Need-mul-old
+mul-old c = search needs
+
+element-copy-out-old : tie.Need-element-copy-out-old
+element-copy-out-old c = search needs
+
+spared-requires : tie.Need-spared-requires
+spared-requires c κs =
+    let s = c .before .before .before .before in
+    (s .pre .0 .0 .sized .h-high, shape-fits (s .args .t4) (s .args .j) (s .pre .0 .2) (omega (arith, len s, s .pre .0 .0 .few)) (s .pre .0 .0 .fitting), s .pre .0 .3)
 
 paint-part-requires : tie.Need-paint-part-requires
 paint-part-requires c κs = search needs
@@ -33,7 +44,7 @@ add-paint-part c = search needs
 
 paint-part-requires-2 : tie.Need-paint-part-requires-2
 paint-part-requires-2 c κs =
-    let s = c .before .before .before .before .before .before .before .before .before .before .before .before .before in
+    let s = c .before .before .before .before .before .before .before .before .before .before .before .before .before .before .before in
     let k = c .before .before .before .copy in (
       s .pre .0 .0,
       omega (arith, s .pre .0 .2),
@@ -45,26 +56,15 @@ paint-part-requires-2 c κs =
 paint-requires : tie.Need-paint-requires
 paint-requires c κs = search needs
 
-mul-old : tie.Need-mul-old
-mul-old c = search needs
-
-element-copy-out-old : tie.Need-element-copy-out-old
-element-copy-out-old c = search needs
-
-spared-requires : tie.Need-spared-requires
-spared-requires c κs =
-    let s = c .before .before .before .before .before .before .before .before .before .before .before .before .before .before .before .before .before .before .before .before .before in
-    (s .pre .0 .0 .sized .h-high, shape-fits (s .args .t4) (s .args .j) (s .pre .0 .2) (omega (arith, len s, s .pre .0 .0 .few)) (s .pre .0 .0 .fitting), s .pre .0 .3)
-
 sum-rows-requires : tie.Need-sum-rows-requires
 sum-rows-requires c κs =
     let s = c .before .before .before .before .before .before .before .before .before .before .before .before .before .before .before .before .before .before .before .before .before .before .before in
-    let p = c .before .before .before .before .before .paint in (
+    let p = c .before .before .before .paint in (
       s .pre .0 .0 .sized,
       s .pre .1 .0,
-      p .kept .1 .1 .1 .0 ∙ c .before .before .before .before .before .before .before .before .before .paint-part2 .kept .1 .1 .1 .1 .1 .0 ∙ c .before .before .before .before .before .before .before .before .before .before .before .before .before .copy .kept .1 .0 ∙ s .pre .1 .2,
+      p .kept .1 .1 .1 .0 ∙ c .before .before .before .before .before .before .before .paint-part2 .kept .1 .1 .1 .1 .1 .1 .0 ∙ c .before .before .before .before .before .before .before .before .before .before .before .copy .kept .1 .0 ∙ s .pre .1 .2,
       p .ensures .1,
-      c .before .spared .ensures .0,
+      c .before .before .before .before .before .before .before .before .before .before .before .before .before .before .before .before .before .before .spared .ensures .0,
     )
 
 same-length : tie.Need-same-length
@@ -77,18 +77,27 @@ returns : tie.Need-returns
 returns c =
     let s = c .before .before .before .before .before .before .before .before .before .before .before .before .before .before .before .before .before .before .before .before .before .before .before .before in
     let a = s .args in
-    let f = c .before .before .before .before .before .before .before .before .before .before .before .before .before .before .before .before .before .before .before .paint-part in
-    let first = f .last .1 .1 .1 .1 .1 .0 in
+    let f = c .before .before .before .before .before .before .before .before .before .before .before .before .before .before .before .before .before .paint-part in
+    let k = c .before .before .before .before .before .before .before .before .before .before .before .before .copy in
+    let q = c .before .before .before .before .before .before .before .before .paint-part2 in
+    let p = c .before .before .before .before .paint in
+    let o = c .before .before .before .before .before .before .before .before .before .before .before .before .before .before .before .before .before .before .before .spared in
+    let columns = s .pre .0 .0 .sized .w-low in
+    let first = f .last .1 .1 .1 .1 .1 .1 .0 in
+    let drawn-part = q .last .1 .1 .1 .1 .1 .1 .0 in
+    let made = slice (a .made) (a .j) (a .t4 .items) in
     let rest = slice (a .j + 1) (a .t4 .count) (a .t4 .items) in
-    let e =
-    c .before .before .before .before .before .before .paint .ensures .0
-    ∙ ap (shapePainted (a .w) (a .h) (a .x)) (c .before .before .before .before .before .before .before .before .before .before .paint-part2 .ensures .0 ∙ ap (λ (q : List Float). paintedOn (shapePainted (a .w) (a .h)) q rest) (c .before .before .before .before .before .before .before .before .before .before .before .before .before .before .copy .ensures)) in
-    let o = c .before .before .spared .ensures in (
-      f .ensures .0,
+    let long : length first ≡ a .h * a .w * 3 = f .kept .1 .1 .1 .1 .1 .1 .0 ∙ s .pre .1 .1 in
+    let tried = shapePainted (a .w) (a .h) (a .x) (paintedOn (shapePainted (a .w) (a .h)) first rest) in
+    let same =
+    part-same (a .w) (a .h) columns (o .result) rest first drawn-part (p .last .1 .1 .1 .0) tried (a .x) (q .kept .1 .1 .1 .1 .1 .1 .0 ∙ k .kept .1 .0 ∙ s .pre .1 .2) long
+    (subst (λ (r : List Float). SameFrom (o .result * a .w * 3) drawn-part (paintedOn (shapePainted (a .w) (a .h)) r rest)) (k .ensures) (q .ensures .0))
+    (λ i m. ap (λ (r : List Float). getD r i nan) (p .ensures .0)) refl in (
+      same-whole (a .w) first (paintedOn (shapePainted (a .w) (a .h)) (a .first .now) made) (long ∙ sym (painted-on-length (a .w) (a .h) made (a .first .now) (s .pre .1 .1))) (f .ensures .0),
       f .ensures .1,
       λ all.
-          c .sum-rows .ensures (shapePainted (a .w) (a .h) (a .x) (paintedOn (shapePainted (a .w) (a .h)) first rest)) (λ i k. ap (λ (q : List Float). getD q i nan) (sym e))
-          (trial-sums (a .w) (a .h) (s .pre .0 .0 .sized .w-low) first (getD (a .t4 .items) (a .j) blank) (a .x) rest (c .before .before .spared .result) (o .0) (o .1) (o .2) (a .target .now) (a .sums)
+          c .sum-rows .ensures tried (λ i m. sym (same i m))
+          (trial-sums (a .w) (a .h) columns first (getD (a .t4 .items) (a .j) blank) (a .x) rest (o .result) (o .ensures .0) (o .ensures .1) (o .ensures .2) (a .target .now) (a .sums)
           (subst (λ (l : List Shape). summing (a .w) (a .h) (a .target .now) (paintedOn (shapePainted (a .w) (a .h)) first l) (a .sums)) (slice-first (a .t4 .items) (a .j) (a .t4 .count) blank (s .pre .0 .2) (omega (arith, len s, s .pre .0 .0 .few))) all)),
     )
 
@@ -96,14 +105,14 @@ pub try-candidate-spec : {M : Type 1} → statement M
 try-candidate-spec =
     tie.close
     (tie.spec
+    mul-old
+    element-copy-out-old
+    spared-requires
     paint-part-requires
     copy-requires
     add-paint-part
     paint-part-requires-2
     paint-requires
-    mul-old
-    element-copy-out-old
-    spared-requires
     sum-rows-requires
     same-length
     same-length-2
