@@ -87,8 +87,42 @@ def structs(crate):
     return {m.group(2): f"#[derive(Clone, Copy, Debug, PartialEq)]\n#[repr(C)]\npub struct {m.group(2)} {{{m.group(3)}}}" for m in STRUCT.finditer(source(crate))}
 
 
-def bound(export, known):
-    """The C declaration of an export, and a safe Rust function over it."""
+SIZES = {"u8": 1, "bool": 1, "u16": 2, "i16": 2, "u32": 4, "i32": 4, "f32": 4, "u64": 8, "i64": 8, "usize": 8, "isize": 8, "f64": 8}
+
+
+def eights(text):
+    """The eights of bytes of a `#[repr(C)]` struct, each with the kinds of number in it."""
+    at, found = 0, []
+    for kind, count in re.findall(r"pub \w+: \[?(\w+)(?:; (\d+)\])?,", text):
+        for _ in range(int(count or 1)):
+            at = -(-at // SIZES[kind]) * SIZES[kind]
+            found += [set() for _ in range(at // 8 + 1 - len(found))]
+            found[at // 8].add(kind)
+            at += SIZES[kind]
+    return found
+
+
+# Our modules hand over a struct as C does on x86-64: above 16 bytes at a place that comes as the first argument, else in the registers
+# for whole numbers or for floats, eight bytes in each. Compiled for Arm they still do, and C there wants the first in a register of its
+# own, and the others in those for whole numbers.
+def turned(name, args, result, known):
+    """On Arm: Rust's words before the call, the declaration's and the call's first parts, what follows, and more source."""
+    parts = eights(known[result])
+    if len(parts) > 2:
+        return f"let mut answer = std::mem::MaybeUninit::<{result}>::uninit(); ", [f"answer: *mut {result}"], ["answer.as_mut_ptr()"], "; answer.assume_init()", "", name
+    if parts[-1] <= {"f32", "f64"} and not parts[0] <= {"f32", "f64"}:
+        if len(args) > 8:
+            die(f"the export {name} takes more than Arm's eight registers: rust/link.py does not know how to turn its answer")
+        over = f"over_{name}"
+        lines = [f".global {over}", f"{over}:", "stp x29, x30, [sp, #-16]!", f"bl {name}", "fmov x1, d0", "ldp x29, x30, [sp], #16", "ret"]
+        return "", [], [], "", "std::arch::global_asm!(" + ", ".join(f'"{line}"' for line in lines) + ");\n", over
+    if any(p & {"f32", "f64"} and not p - {"f32", "f64"} for p in parts):
+        die(f"the export {name} answers a struct that rust/link.py does not know how to turn for Arm")
+    return "", [], [], "", "", name
+
+
+def bound(export, known, arm=False):
+    """The C declaration of an export, and a safe Rust function over it. With arm: over our module compiled for Arm."""
     name, args, result = export
     declared, taken, handed = [], [], []
     for arg, kind in args:
@@ -109,9 +143,10 @@ def bound(export, known):
         else:
             die(f"the export {name} has a parameter of the type {kind}, which rust/link.py does not know")
     back = f" -> {result}" if result else ""
+    before, first, given, after, more, called = turned(name, declared, result, known) if arm and result in known else ("", [], [], "", "", name)
     return (
-        f"    pub fn {name}({', '.join(declared)}){back};",
-        f"#[inline]\npub fn {name}({', '.join(taken)}){back} {{\n    unsafe {{ c::{name}({', '.join(handed)}) }}\n}}\n",
+        f"    pub fn {called}({', '.join(first + declared)}){'' if first else back};",
+        f"{more}#[inline]\npub fn {name}({', '.join(taken)}){back} {{\n    unsafe {{ {before}c::{called}({', '.join(given + handed)}){after} }}\n}}\n",
     )
 
 
@@ -122,10 +157,10 @@ def write(path, text):
             f.write(text)
 
 
-def module(crates, head):
+def module(crates, head, arm=False):
     """A Rust module with the exports of crates: the declarations, and a safe function over each."""
     known = {name: text for crate in crates for name, text in structs(crate).items()}
-    pairs = [(bound(e, known), comment) for crate in crates for e, comment in documented(crate)]
+    pairs = [(bound(e, known, arm), comment) for crate in crates for e, comment in documented(crate)]
     declared = "\n".join(p[0] for p, _ in pairs)
     safe = "\n".join((f"/// {comment}\n" if comment else "") + p[1] for p, comment in pairs)
     return (
@@ -135,15 +170,15 @@ def module(crates, head):
     )
 
 
-def bindings(path):
-    """Writes the Rust module `ours`, and answers the names in it."""
+def bindings(path, native=False):
+    """Writes the Rust module `ours`, and answers the names in it. With native: over our modules compiled for this machine."""
     head = (
         "// Made by rust/link.py from the sources of the exporting crates.\n"
         "#![allow(dead_code)]\n"
         "#![allow(unused_imports)]\n"
         "#![allow(clippy::too_many_arguments)]\n\n"
     )
-    write(path, module(exporting(), head))
+    write(path, module(exporting(), head, native and platform.machine() != "x86_64"))
     return {e[0] for crate in exporting() for e in exports(crate)}
 
 

@@ -34,19 +34,19 @@ module _ (kind : Kind) (opacity red green blue : Float) (w h i : ℕ) (columns :
   painted-agrees p q e = painted-number p ∙ ap recolour e ∙ sym (painted-number q)
 
   -- a number of a row that the shape does not reach
-  spared : (old : List Float) → (i / 3 / w < reachRows kind h .top) ⊎ (reachRows kind h .bottom ≤ i / 3 / w) → getD (painted kind opacity red green blue w h old) i nan ≡ getD old i nan
+  spared : (old : List Float) → (i / 3 / w < reachRows kind w h .top) ⊎ (reachRows kind w h .bottom ≤ i / 3 / w) → getD (painted kind opacity red green blue w h old) i nan ≡ getD old i nan
   spared old out =
       painted-number old
       ∙ ap (λ (b : Bool). cond b (blended opacity (channelOf red green blue (i % 3)) (getD old i nan)) (getD old i nan))
-      (subst (Ended (λ x. covered kind x (i / 3 / w)) w) (through kind h .outside w (i / 3 / w) (row-in-picture w h i columns inside) out) (ended (λ x. covered kind x (i / 3 / w)) w)
+      (subst (Ended (λ x. covered kind x (i / 3 / w)) w) (through kind w h .outside (i / 3 / w) (row-in-picture w h i columns inside) out) (ended (λ x. covered kind x (i / 3 / w)) w)
       (i / 3 % w) (mod-lt (i / 3) columns))
 
   -- above the first row that it reaches
-  pub painted-above : (old : List Float) (n : ℕ) → n ≤ reachRows kind h .top → i < n * w * 3 → getD (painted kind opacity red green blue w h old) i nan ≡ getD old i nan
+  pub painted-above : (old : List Float) (n : ℕ) → n ≤ reachRows kind w h .top → i < n * w * 3 → getD (painted kind opacity red green blue w h old) i nan ≡ getD old i nan
   painted-above old n above l = spared old (inl (omega (arith, row-in-picture w n i columns l)))
 
   -- and below the last
-  pub painted-below : (old : List Float) (n : ℕ) → reachRows kind h .bottom ≤ n → n * w * 3 ≤ i → getD (painted kind opacity red green blue w h old) i nan ≡ getD old i nan
+  pub painted-below : (old : List Float) (n : ℕ) → reachRows kind w h .bottom ≤ n → n * w * 3 ≤ i → getD (painted kind opacity red green blue w h old) i nan ≡ getD old i nan
   painted-below old n below l = spared old (inr (⊎-elim (λ (k : n ≤ i / 3 / w). omega (arith, k)) (λ (k : i / 3 / w < n). absurd (high k)) (le-or-lt n (i / 3 / w))))
     where
       high : i / 3 / w < n → ⊥

@@ -122,7 +122,7 @@ module _ (w h : ℕ) (columns : 0 < w) where
       ∙ ap (λ (r : List Float). getD r i nan) all
 
   -- a shape that ends above
-  pub under-same : (top : ℕ) (s : Shape) (p : List Float) → length p ≡ h * w * 3 → reachRows (s .kind) h .bottom ≤ top → SameFrom (top * w * 3) p (shapePainted w h s p)
+  pub under-same : (top : ℕ) (s : Shape) (p : List Float) → length p ≡ h * w * 3 → reachRows (s .kind) w h .bottom ≤ top → SameFrom (top * w * 3) p (shapePainted w h s p)
   under-same top s p e below i k =
       ⊎-elim
       (λ (past : h * w * 3 ≤ i).
@@ -131,7 +131,7 @@ module _ (w h : ℕ) (columns : 0 < w) where
       (λ (inside : i < h * w * 3). sym (painted-below (s .kind) (s .opacity) (s .red) (s .green) (s .blue) w h i columns inside p top below k))
       (le-or-lt (h * w * 3) i)
 
-  module _ (first : List Float) (y x : Shape) (l : List Shape) (top : ℕ) (high : top ≤ h) (before-y : top ≤ reachRows (y .kind) h .top) (before-x : top ≤ reachRows (x .kind) h .top) where
+  module _ (first : List Float) (y x : Shape) (l : List Shape) (top : ℕ) (high : top ≤ h) (before-y : top ≤ reachRows (y .kind) w h .top) (before-x : top ≤ reachRows (x .kind) w h .top) where
     trial-above : (i : ℕ) → i < top * w * 3 → getD (paintedOn (shapePainted w h) first (y ∷ l)) i nan ≡ getD (shapePainted w h x (paintedOn (shapePainted w h) first l)) i nan
     unfolding paintedOn
     trial-above i k =

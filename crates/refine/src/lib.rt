@@ -70,7 +70,7 @@ fn paint_under(w: usize, h: usize, s: Shape, top: usize, canvas: &mut [f32])
     ensures { λ _. ⌜ SameFrom (top * w * 3) (now (canvas .exit)) (shapePainted w h s (now (canvas .entry))) × T (allWithin (now (canvas .exit))) ⌝ }
 {
     let kind = s.kind;
-    let rows = cover::reached::reach_rows(kind, h);
+    let rows = cover::reached::reach_rows(kind, w, h);
     if top < rows.bottom {
         paint(w, h, s, canvas);
     }
@@ -135,21 +135,21 @@ fn sum_rows(w: usize, h: usize, target: &[f32], canvas: &[f32], top: usize, mut 
 }
 
 // The first row that a shape can reach.
-fn first_row(h: usize, s: Shape) -> usize
-    requires { ⌜ (h ≤ 256) × T (fits s) ⌝ }
-    ensures { λ r. ⌜ r ≡ reachRows (s .kind) h .top ⌝ }
+fn first_row(w: usize, h: usize, s: Shape) -> usize
+    requires { ⌜ Sized w h × T (fits s) ⌝ }
+    ensures { λ r. ⌜ r ≡ reachRows (s .kind) w h .top ⌝ }
 {
     let kind = s.kind;
-    let rows = cover::reached::reach_rows(kind, h);
+    let rows = cover::reached::reach_rows(kind, w, h);
     rows.top
 }
 
 // How many rows of a picture stay as they were if one shape goes and another comes.
-fn spared(h: usize, s: Shape, x: Shape) -> usize
-    requires { ⌜ (h ≤ 256) × T (fits s) × T (fits x) ⌝ }
-    ensures { λ r. ⌜ (r ≤ h) × (r ≤ reachRows (s .kind) h .top) × (r ≤ reachRows (x .kind) h .top) ⌝ }
+fn spared(w: usize, h: usize, s: Shape, x: Shape) -> usize
+    requires { ⌜ Sized w h × T (fits s) × T (fits x) ⌝ }
+    ensures { λ r. ⌜ (r ≤ h) × (r ≤ reachRows (s .kind) w h .top) × (r ≤ reachRows (x .kind) w h .top) ⌝ }
 {
-    let top = whole::min_usize(first_row(h, s), first_row(h, x));
+    let top = whole::min_usize(first_row(w, h, s), first_row(w, h, x));
     whole::min_usize(top, h)
 }
 
@@ -178,7 +178,7 @@ fn try_candidate(
         → summing w h (now (target .entry)) (shapePainted w h x (paintedOn (shapePainted w h) (now (first .exit)) (slice (j + 1) (list .count) (list .items)))) r) ⌝ }
 {
     let old = list.items[j];
-    let top = spared(h, old, x);
+    let top = spared(w, h, old, x);
     paint_part(w, h, list, made, j, 0, first);
     copy(first, second);
     paint_part(w, h, list, j + 1, list.count, top, second);

@@ -11,7 +11,7 @@ use Rattle.refine.proofs.paint_under.Statement.{statement}
 use Rattle.refine.proofs.paint_under.Tie as tie
 
 reach-rows-requires : tie.Need-reach-rows-requires
-reach-rows-requires c κs = let s = c .before in (s .pre .0 .h-high, well-placed (s .args .s) (s .pre .2))
+reach-rows-requires c κs = let s = c .before in (s .pre .0, well-placed (s .args .s) (s .pre .2))
 
 paint-requires : tie.Need-paint-requires
 paint-requires c κs = search needs

@@ -31,7 +31,7 @@ element-copy-out-old c = search needs
 spared-requires : tie.Need-spared-requires
 spared-requires c κs =
     let s = c .before .before .before .before in
-    (s .pre .0 .0 .sized .h-high, shape-fits (s .args .t4) (s .args .j) (s .pre .0 .2) (omega (arith, len s, s .pre .0 .0 .few)) (s .pre .0 .0 .fitting), s .pre .0 .3)
+    (s .pre .0 .0 .sized, shape-fits (s .args .t4) (s .args .j) (s .pre .0 .2) (omega (arith, len s, s .pre .0 .0 .few)) (s .pre .0 .0 .fitting), s .pre .0 .3)
 
 paint-part-requires : tie.Need-paint-part-requires
 paint-part-requires c κs = search needs
