@@ -180,7 +180,7 @@ fn total_refusal(w: usize, h: usize, n: usize, m: usize) -> u8
     refused(w, h, m)
 }
 
-// Then the pixels, 64 numbers at a time: the next ones' tests are done while the additions, which may not be reordered, wait for
+// Then the pixels, 32 numbers at a time: the next ones' tests are done while the additions, which may not be reordered, wait for
 // each other.
 fn total_tested(target: &[f32], canvas: &[f32]) -> Total
     requires { ⌜ length (now target) ≡ length (now canvas) ⌝ }
@@ -204,10 +204,10 @@ fn part_end(i: usize, n: usize) -> usize
     requires { ⌜ i < n ⌝ }
     ensures { λ r. ⌜ (i < r) × (r ≤ n) ⌝ }
 {
-    if n - i < 64 {
+    if n - i < 32 {
         return n;
     }
-    i + 64
+    i + 32
 }
 
 // All before `from` were within 0..1. The loop has no way out, so that it is vectorised.
