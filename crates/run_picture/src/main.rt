@@ -145,7 +145,7 @@ fn long_total(last: f32) {
     let mut canvas = [0.25f32; 192];
     canvas[191] = last;
     show::text(b"total 8x8, the last pixel");
-    number(last);
+    figures::number(last);
     let t = probe_picture::probe_sse_total(8, 8, &target, &canvas);
     answered(t.number);
     show::text(b" ");
