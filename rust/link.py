@@ -3,6 +3,7 @@
 Used by rust/differential and bench/run. Standard library only.
 """
 
+import hashlib
 import os
 import platform
 import re
@@ -207,23 +208,50 @@ def header(crate):
     return "\n".join(text)
 
 
+def digest():
+    """What the archives are made of: the toolchain and every file of every crate."""
+    sum = hashlib.sha256(subprocess.run(["rt", "version"], stdout=subprocess.PIPE).stdout)
+    for folder, folders, files in os.walk(os.path.join(ROOT, "crates")):
+        folders.sort()
+        for name in sorted(files):
+            path = os.path.join(folder, name)
+            with open(path, "rb") as f:
+                sum.update(path[len(ROOT):].encode() + b"\0" + f.read() + b"\0")
+    with open(os.path.join(ROOT, "crates.txt"), "rb") as f:
+        sum.update(f.read())
+    return sum.hexdigest()
+
+
+def made(archive, now):
+    """Whether an archive was made of what there is now."""
+    try:
+        with open(archive + ".of", encoding="utf-8") as f:
+            return os.path.exists(archive) and f.read() == now
+    except OSError:
+        return False
+
+
 def archives(folder=None, only=None):
     """Proves and archives the exporting crates, or one of them; answers the linker's words.
 
     With a folder: archives for this machine, compiled from the same modules (for times on Arm)."""
     need("rt", "the Rattle toolchain proves and archives our side")
     words = []
+    now = digest()
+    where = folder or os.path.join(TARGET, "staticlib")
+    os.makedirs(where, exist_ok=True)
     for crate in exporting():
         if not exports(crate) or only not in (None, crate):
             continue
-        done = subprocess.run(["rt", "staticlib", crate], cwd=ROOT, stdout=subprocess.PIPE, stderr=subprocess.STDOUT, text=True)
-        if done.returncode != 0:
-            die(done.stdout + f"rt staticlib {crate} failed")
-        where = os.path.join(TARGET, "staticlib")
-        if folder is not None:
-            os.makedirs(folder, exist_ok=True)
-            call(["sh", os.path.join(ROOT, "bench", "native-archive"), crate, os.path.join(folder, f"lib{crate}.a")], cwd=ROOT)
-            where = folder
+        archive = os.path.join(where, f"lib{crate}.a")
+        if not made(archive, now):
+            how = ["rt", "check", crate] if folder else ["rt", "staticlib", crate]
+            done = subprocess.run(how, cwd=ROOT, stdout=subprocess.PIPE, stderr=subprocess.STDOUT, text=True)
+            if done.returncode != 0:
+                die(done.stdout + " ".join(how) + " failed")
+            if folder:
+                call(["sh", os.path.join(ROOT, "bench", "native-archive"), crate, archive], cwd=ROOT)
+            write(archive + ".of", now)
         words += ["-L", f"native={where}", "-l", f"static={crate}"]
     return words
 
