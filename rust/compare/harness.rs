@@ -109,18 +109,17 @@ fn grouped(n: u64) -> String {
     out
 }
 
-/// What a long fixed list is thinned to in a short run.
-const THINNED: u64 = 20_000;
-
-/// Every how many of a fixed list's cases are run: each one from a million cases on; in a shorter run so many of a long list, evenly,
-/// that some twenty thousand are. An odd step, so that it does not fall in with lists that go by powers of two.
+/// Every how many of a fixed list's cases are run: each one from a million cases on. In a shorter run a long list is thinned, evenly, to
+/// about a tenth as many cases as were asked for. An odd step, so that it does not fall in with lists that go by powers of two.
 fn step(c: &Comparison, amount: Amount) -> u64 {
-    if matches!(amount, Amount::Cases(n) if n >= 1_000_000) {
-        return 1;
-    }
+    let most = match amount {
+        Amount::Cases(n) if n >= 1_000_000 => return 1,
+        Amount::Cases(n) => (n / 10).max(100),
+        Amount::Seconds(_) => 2_000,
+    };
     let mut all = 0u64;
     (c.fixed)(&mut |_| all += 1);
-    if all <= THINNED { 1 } else { (all / THINNED) | 1 }
+    if all <= most { 1 } else { (all / most) | 1 }
 }
 
 /// Runs one comparison and prints its line. Answers whether it passed.
