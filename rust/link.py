@@ -208,17 +208,31 @@ def header(crate):
     return "\n".join(text)
 
 
-def digest():
-    """What the archives are made of: the toolchain and every file of every crate."""
+def below():
+    """Each crate's own dependencies, from crates.txt."""
+    found = {}
+    with open(os.path.join(ROOT, "crates.txt"), encoding="utf-8") as f:
+        for line in f:
+            name, colon, rest = line.split("#")[0].partition(":")
+            if colon:
+                found[name.strip()] = rest.split()
+    return found
+
+
+def digest(crate):
+    """What a crate's archive is made of: the toolchain, and every file of the crate and of the crates below it."""
+    deps, wanted = below(), [crate]
+    for name in wanted:
+        wanted += [d for d in deps.get(name, []) if d in deps and d not in wanted]
     sum = hashlib.sha256(subprocess.run(["rt", "version"], stdout=subprocess.PIPE).stdout)
-    for folder, folders, files in os.walk(os.path.join(ROOT, "crates")):
-        folders.sort()
-        for name in sorted(files):
-            path = os.path.join(folder, name)
-            with open(path, "rb") as f:
-                sum.update(path[len(ROOT):].encode() + b"\0" + f.read() + b"\0")
-    with open(os.path.join(ROOT, "crates.txt"), "rb") as f:
-        sum.update(f.read())
+    for name in sorted(wanted):
+        for part in ("src", "specs", "proofs"):
+            for folder, folders, files in os.walk(os.path.join(ROOT, "crates", name, part)):
+                folders.sort()
+                for file in sorted(files):
+                    path = os.path.join(folder, file)
+                    with open(path, "rb") as f:
+                        sum.update(path[len(ROOT):].encode() + b"\0" + f.read() + b"\0")
     return sum.hexdigest()
 
 
@@ -237,13 +251,13 @@ def archives(folder=None, only=None):
     With a folder: archives for this machine, compiled from the same modules (for times on Arm)."""
     need("rt", "the Rattle toolchain proves and archives our side")
     words = []
-    now = digest()
     where = folder or os.path.join(TARGET, "staticlib")
     os.makedirs(where, exist_ok=True)
     for crate in exporting():
         if not exports(crate) or only not in (None, crate):
             continue
         archive = os.path.join(where, f"lib{crate}.a")
+        now = digest(crate)
         if not made(archive, now):
             how = ["rt", "check", crate] if folder else ["rt", "staticlib", crate]
             done = subprocess.run(how, cwd=ROOT, stdout=subprocess.PIPE, stderr=subprocess.STDOUT, text=True)
