@@ -1,14 +1,19 @@
 -- Rules: the forms in which refinement is proved: what the program holds in its course, as the rule has it. The answer's promise does not rest on them.
 use mathlib.Core.Path.{_≡_}
+use mathlib.Core.Bool.{true}
 use mathlib.Core.Option.{Option, none, some}
 use mathlib.Core.List.{List}
 use Prim.Native.Nat.{ℕ, _+_, _*_, _≤_, _<_}
 use lib.Dec.{T}
 use lib.Ieee.{Float, nan}
 use lib.ListN.{length, take, getD}
+use lib.Seq.{slice}
 use Rattle.laws.specs.Every.{every}
 use Rattle.float.specs.Within.{nought, allWithin}
 use Rattle.refusal.specs.Refusals.{Sized}
+use Rattle.cover.specs.declared.reached.Rows.{Rows}
+use Rattle.cover.specs.ReachRows.{reachRows}
+use Rattle.picture.specs.Pixels.{totalOf}
 use Rattle.picture.specs.Rows.{totalOn}
 use Rattle.shapes.specs.declared.Shape.{Shape}
 use Rattle.shapes.specs.declared.Shapes.{Shapes}
@@ -17,7 +22,8 @@ use Rattle.shapes.specs.Ranges.{fits}
 use Rattle.refine.specs.declared.Course.{Course}
 use Rattle.refine.specs.declared.Sums.{Sums}
 use Rattle.refine.specs.declared.Refined.{Refined}
-use Rattle.refine.specs.Refinement.{Scene, Progress, drawn, next}
+use Rattle.refine.specs.Refinement.{Scene, Progress, paintedOn, drawn, lower, next}
+use Rattle.refine.specs.Scenes.{shapePainted}
 
 -- a list whose shapes can be painted: the tests were passed
 pub record Drawable (w h : ℕ) (list : Shapes) : Type 0 where
@@ -37,9 +43,27 @@ SummedTo w n target picture sums = (y : ℕ) → y ≤ n → getD sums y nan ≡
 abbrev pub summing : ℕ → ℕ → List Float → List Float → Sums → Type 0
 summing w h target picture s = SummedTo w h target picture (s .rows)
 
--- pictures that are the same from number n on
-abbrev pub SameFrom : ℕ → List Float → List Float → Type 0
-SameFrom n p q = (i : ℕ) → n ≤ i → getD p i nan ≡ getD q i nan
+-- pictures that are the same in the rows from top up to bottom, that one left out
+abbrev pub SameRows : ℕ → ℕ → ℕ → List Float → List Float → Type 0
+SameRows w top bottom p q = (i : ℕ) → top * w * 3 ≤ i → i < bottom * w * 3 → getD p i nan ≡ getD q i nan
+
+-- rows of a picture, above and below which neither of two shapes reaches any
+pub record Spanned (w h : ℕ) (s x : Shape) (rows : Rows) : Type 0 where
+  pub ordered : rows .top ≤ rows .bottom
+  pub inside : rows .bottom ≤ h
+  pub above-s : rows .top ≤ reachRows (s .kind) w h .top
+  pub above-x : rows .top ≤ reachRows (x .kind) w h .top
+  pub below-s : rows .bottom < h → reachRows (s .kind) w h .bottom ≤ rows .bottom
+  pub below-x : rows .bottom < h → reachRows (x .kind) w h .bottom ≤ rows .bottom
+
+-- a trial's picture: the shapes after j on a picture of those before it, and the candidate
+abbrev pub tried : ℕ → ℕ → Shapes → ℕ → Shape → List Float → List Float
+tried w h list j x first = shapePainted w h x (paintedOn (shapePainted w h) first (slice (j + 1) (list .count) (list .items)))
+
+-- what is answered of a trial's picture, against the sums of the list: by its last number the total is judged, and if it is lower, these are the picture's sums
+pub record Judged (w h : ℕ) (target picture : List Float) (old new : Sums) : Type 0 where
+  pub verdict : lower (getD (new .rows) h nan) (getD (old .rows) h nan) ≡ lower (totalOf target picture) (getD (old .rows) h nan)
+  pub sums : lower (getD (new .rows) h nan) (getD (old .rows) h nan) ≡ true → summing w h target picture new
 
 -- the program's numbers as the rule has them
 abbrev pub progressOf : Course → Progress Shape

@@ -8,6 +8,7 @@ pub mod Courses
 -- What follows.
 pub mod RefinementLaws
 pub mod PartLaws
+pub mod RisingLaws
 pub mod SumLaws
 pub mod CourseLaws
 pub mod CallLaws

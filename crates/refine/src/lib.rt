@@ -5,8 +5,8 @@ ghost use mathlib.Core.Option.{Option, none};
 ghost use mathlib.Core.Path.{_≡_};
 ghost use Prim.Native.Nat.{ℕ, _+_, _*_, _<_, _≤_};
 ghost use lib.Dec.{T, eqb, ltb};
-ghost use lib.Ieee.{Float};
-ghost use lib.ListN.{length};
+ghost use lib.Ieee.{Float, nan};
+ghost use lib.ListN.{length, getD};
 ghost use lib.Seq.{slice};
 ghost use Rattle.float.specs.Within.{allWithin};
 ghost use Rattle.refusal.specs.Refusals.{Sized, lowest};
@@ -18,8 +18,9 @@ ghost use Rattle.refine.specs.Refinement.{paintedOn};
 ghost use Rattle.refine.specs.Scenes.{shapePainted, sceneWith};
 ghost use Rattle.refine.specs.Tests.{sizeTests, rangeTests};
 ghost use Rattle.cover.specs.ReachRows.{reachRows};
-ghost use Rattle.refine.specs.Courses.{Drawable, Targeted, SummedTo, summing, SameFrom, untried, risen, taken, restarted, answered, Held, Stepped, Ready};
+ghost use Rattle.refine.specs.Courses.{Drawable, Targeted, SummedTo, summing, SameRows, Spanned, tried, Judged, untried, risen, taken, restarted, answered, Held, Stepped, Ready};
 ghost use Rattle.refine.specs.Answers.{told, refusedWith, RefineShapesSays};
+use cover::reached::Rows;
 use shapes::Candidate;
 use shapes::Candidates;
 use shapes::Ranges;
@@ -64,19 +65,22 @@ fn paint(w: usize, h: usize, s: Shape, canvas: &mut [f32])
     picture::blend(kind, s.opacity, s.red, s.green, s.blue, w, h, canvas);
 }
 
-// The same for the rows from `top` on: those above are left as they are, or painted. A shape that ends above `top` costs nothing.
-fn paint_under(w: usize, h: usize, s: Shape, top: usize, canvas: &mut [f32])
-    requires { ⌜ Sized w h × (length (now canvas) ≡ h * w * 3) × T (fits s) × T (allWithin (now canvas)) ⌝ }
-    ensures { λ _. ⌜ SameFrom (top * w * 3) (now (canvas .exit)) (shapePainted w h s (now (canvas .entry))) × T (allWithin (now (canvas .exit))) ⌝ }
+// The same for the rows from `top` up to `bottom`, that one left out: the others are left as they are, or painted. A shape that reaches
+// none of the rows costs nothing.
+fn paint_rows(w: usize, h: usize, s: Shape, top: usize, bottom: usize, canvas: &mut [f32])
+    requires { ⌜ Sized w h × (length (now canvas) ≡ h * w * 3) × T (fits s) × T (allWithin (now canvas)) × (bottom ≤ h) ⌝ }
+    ensures { λ _. ⌜ SameRows w top bottom (now (canvas .exit)) (shapePainted w h s (now (canvas .entry))) × T (allWithin (now (canvas .exit))) ⌝ }
 {
     let kind = s.kind;
     let rows = cover::reached::reach_rows(kind, w, h);
     if top < rows.bottom {
-        paint(w, h, s, canvas);
+        if rows.top < bottom {
+            paint(w, h, s, canvas);
+        }
     }
 }
 
-// The shapes from `from` up to `to` of the list, in their order, for the rows from `top` on.
+// The shapes from `from` up to `to` of the list, in their order, for the rows from `top` up to `bottom`.
 fn paint_part(
     w: usize,
     h: usize,
@@ -84,24 +88,27 @@ fn paint_part(
     from: usize,
     to: usize,
     top: usize,
+    bottom: usize,
     canvas: &mut [f32],
 )
-    requires { ⌜ Drawable w h list × (from ≤ to) × (to ≤ list .count) × (length (now canvas) ≡ h * w * 3) × T (allWithin (now canvas)) ⌝ }
-    ensures { λ _. ⌜ SameFrom (top * w * 3) (now (canvas .exit)) (paintedOn (shapePainted w h) (now (canvas .entry)) (slice from to (list .items))) × T (allWithin (now (canvas .exit))) ⌝ }
+    requires { ⌜ Drawable w h list × (from ≤ to) × (to ≤ list .count) × (length (now canvas) ≡ h * w * 3) × T (allWithin (now canvas)) × (bottom ≤ h) ⌝ }
+    ensures { λ _. ⌜ SameRows w top bottom (now (canvas .exit)) (paintedOn (shapePainted w h) (now (canvas .entry)) (slice from to (list .items))) × T (allWithin (now (canvas .exit))) ⌝ }
 {
     let mut i = from;
     while i < to {
         let x = list.items[i];
-        paint_under(w, h, x, top, canvas);
+        paint_rows(w, h, x, top, bottom, canvas);
         i += 1;
     }
 }
 
-fn copy(from: &[f32], to: &mut [f32])
+// The numbers from `start` on; those before it stay.
+fn copy(from: &[f32], start: usize, to: &mut [f32])
     requires { ⌜ length (now from) ≡ length (now to) ⌝ }
-    ensures { λ _. ⌜ now (to .exit) ≡ now (from .entry) ⌝ }
+    ensures { λ _. ⌜ ((i : ℕ) → start ≤ i → i < length (now (to .entry)) → getD (now (to .exit)) i nan ≡ getD (now (from .entry)) i nan)
+        × ((i : ℕ) → i < start → getD (now (to .exit)) i nan ≡ getD (now (to .entry)) i nan) ⌝ }
 {
-    let mut i = 0;
+    let mut i = start;
     while i < to.len() {
         to[i] = from[i];
         i += 1;
@@ -114,18 +121,26 @@ fn draw(w: usize, h: usize, red: f32, green: f32, blue: f32, list: Shapes, canva
     ensures { λ _. ⌜ (now (canvas .exit) ≡ paintedOn (shapePainted w h) (filled w h red green blue) (slice 0 (list .count) (list .items))) × T (allWithin (now (canvas .exit))) ⌝ }
 {
     picture::fill(w, h, red, green, blue, canvas);
-    paint_part(w, h, list, 0, list.count, 0, canvas);
+    paint_part(w, h, list, 0, list.count, 0, h, canvas);
 }
 
 // ---- totals
 
-// The sums of a picture from row `top` on: those before it stand already. The rows above `top` are not read.
-fn sum_rows(w: usize, h: usize, target: &[f32], canvas: &[f32], top: usize, mut sums: Sums) -> Sums
-    requires { ⌜ Sized w h × Targeted w h (now target) × (length (now canvas) ≡ h * w * 3) × T (allWithin (now canvas)) × (top ≤ h) ⌝ }
-    ensures { λ r. ⌜ ((p : List Float) → SameFrom (top * w * 3) p (now (canvas .entry)) → SummedTo w top (now (target .entry)) p (sums .rows) → summing w h (now (target .entry)) p r) ⌝ }
+// The sums of a picture over the rows from `top` up to `bottom`: those before it stand already. The other rows are not read.
+fn sum_rows(
+    w: usize,
+    h: usize,
+    target: &[f32],
+    canvas: &[f32],
+    top: usize,
+    bottom: usize,
+    mut sums: Sums,
+) -> Sums
+    requires { ⌜ Sized w h × Targeted w h (now target) × (length (now canvas) ≡ h * w * 3) × T (allWithin (now canvas)) × (top ≤ bottom) × (bottom ≤ h) ⌝ }
+    ensures { λ r. ⌜ ((p : List Float) → SameRows w top bottom p (now (canvas .entry)) → SummedTo w top (now (target .entry)) p (sums .rows) → SummedTo w bottom (now (target .entry)) p (r .rows)) ⌝ }
 {
     let mut y = top;
-    while y < h {
+    while y < bottom {
         let so_far = sums.rows[y];
         let sum = picture::rows::total_on(target, canvas, y * w * 3, w * 3, so_far);
         sums.rows[y + 1] = sum;
@@ -134,30 +149,60 @@ fn sum_rows(w: usize, h: usize, target: &[f32], canvas: &[f32], top: usize, mut 
     sums
 }
 
-// The first row that a shape can reach.
-fn first_row(w: usize, h: usize, s: Shape) -> usize
+// The rows of a picture that a shape can reach.
+fn rows_of(w: usize, h: usize, s: Shape) -> Rows
     requires { ⌜ Sized w h × T (fits s) ⌝ }
-    ensures { λ r. ⌜ r ≡ reachRows (s .kind) w h .top ⌝ }
+    ensures { λ r. ⌜ r ≡ reachRows (s .kind) w h ⌝ }
 {
     let kind = s.kind;
-    let rows = cover::reached::reach_rows(kind, w, h);
-    rows.top
+    cover::reached::reach_rows(kind, w, h)
 }
 
-// How many rows of a picture stay as they were if one shape goes and another comes.
-fn spared(w: usize, h: usize, s: Shape, x: Shape) -> usize
+// The rows that may change if one shape goes and another comes, and those between them.
+fn spanned(w: usize, h: usize, s: Shape, x: Shape) -> Rows
     requires { ⌜ Sized w h × T (fits s) × T (fits x) ⌝ }
-    ensures { λ r. ⌜ (r ≤ h) × (r ≤ reachRows (s .kind) w h .top) × (r ≤ reachRows (x .kind) w h .top) ⌝ }
+    ensures { λ r. ⌜ Spanned w h s x r ⌝ }
 {
-    let top = whole::min_usize(first_row(w, h, s), first_row(w, h, x));
-    whole::min_usize(top, h)
+    let old = rows_of(w, h, s);
+    let new = rows_of(w, h, x);
+    let top = whole::min_usize(whole::min_usize(old.top, new.top), h);
+    let bottom = whole::min_usize(whole::max_usize(old.bottom, new.bottom), h);
+    Rows {
+        top,
+        bottom: whole::max_usize(top, bottom),
+    }
 }
 
 // ---- one trial
 
+// On `second`, which has the shapes before j in the rows from `top` up to `bottom`, come the shapes after j and the candidate, for these
+// rows. The sums of them are answered; those before them stand already.
+fn try_rows(
+    w: usize,
+    h: usize,
+    target: &[f32],
+    list: Shapes,
+    j: usize,
+    x: Shape,
+    top: usize,
+    bottom: usize,
+    sums: Sums,
+    second: &mut [f32],
+) -> Sums
+    requires { ⌜ Drawable w h list × (j < list .count) × T (fits x) × (top ≤ bottom) × (bottom ≤ h) ⌝ }
+    requires { ⌜ Targeted w h (now target) × (length (now second) ≡ h * w * 3) × T (allWithin (now second)) ⌝ }
+    ensures { λ r. ⌜ T (allWithin (now (second .exit)))
+        × ((p : List Float) → SameRows w top bottom (now (second .entry)) p → SummedTo w top (now (target .entry)) (tried w h list j x p) (sums .rows) → SummedTo w bottom (now (target .entry)) (tried w h list j x p) (r .rows)) ⌝ }
+{
+    paint_part(w, h, list, j + 1, list.count, top, bottom, second);
+    paint_rows(w, h, x, top, bottom, second);
+    sum_rows(w, h, target, second, top, bottom, sums)
+}
+
 // What is left of the shapes before j is painted on `first`, which has the first `made` of them. On `second` come those, the shapes
-// after j and the candidate: its sums are answered. Above the rows that shape j and the candidate reach they are those of the list, and
-// a shape after j that ends there is not drawn.
+// after j and the candidate: its sums are answered. Above the rows that shape j and the candidate reach they are those of the list.
+// Below these rows the two pictures are the same again: if the sum is not lower there, neither is the total, since rounded sums keep
+// their order. Then nothing more is drawn, and the list's own sums are answered.
 fn try_candidate(
     w: usize,
     h: usize,
@@ -175,15 +220,20 @@ fn try_candidate(
     ensures { λ r. ⌜ (now (first .exit) ≡ paintedOn (shapePainted w h) (now (first .entry)) (slice made j (list .items)))
         × T (allWithin (now (first .exit)))
         × (summing w h (now (target .entry)) (paintedOn (shapePainted w h) (now (first .exit)) (slice j (list .count) (list .items))) sums
-        → summing w h (now (target .entry)) (shapePainted w h x (paintedOn (shapePainted w h) (now (first .exit)) (slice (j + 1) (list .count) (list .items)))) r) ⌝ }
+        → Judged w h (now (target .entry)) (tried w h list j x (now (first .exit))) sums r) ⌝ }
 {
     let old = list.items[j];
-    let top = spared(w, h, old, x);
-    paint_part(w, h, list, made, j, 0, first);
-    copy(first, second);
-    paint_part(w, h, list, j + 1, list.count, top, second);
-    paint(w, h, x, second);
-    sum_rows(w, h, target, second, top, sums)
+    let rows = spanned(w, h, old, x);
+    let top = rows.top;
+    let bottom = rows.bottom;
+    paint_part(w, h, list, made, j, 0, h, first);
+    copy(first, 0, second);
+    let part = try_rows(w, h, target, list, j, x, top, bottom, sums, second);
+    if part.rows[bottom] < sums.rows[bottom] {
+        copy(first, bottom * w * 3, second);
+        return try_rows(w, h, target, list, j, x, bottom, h, part, second);
+    }
+    sums
 }
 
 // No acceptance: j rises by one.
@@ -223,8 +273,8 @@ fn accept(c: Course, list: Shapes, new: f64, sums: Sums) -> Course
     }
 }
 
-// A trial costs one total: `old` stays after a rejected one, and is the new total after an accepted one. Only the shapes after j are
-// drawn for it, and none without a candidate.
+// A trial costs one total at most: `old` stays after a rejected one, and is the new total after an accepted one. Only shapes after j
+// are drawn for it, and none without a candidate.
 fn step(
     w: usize,
     h: usize,
@@ -340,7 +390,7 @@ fn start(
     let nothing = Sums {
         rows: [0.0f64; 257],
     };
-    let sums = sum_rows(w, h, target, first, 0, nothing);
+    let sums = sum_rows(w, h, target, first, 0, h, nothing);
     let old = sums.rows[h];
     Course {
         list,

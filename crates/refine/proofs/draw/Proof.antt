@@ -27,6 +27,7 @@ paint-part-requires c κs =
       omega arith,
       f .kept .1 .1 .1 .1 .1 .0 ∙ s .pre .2,
       subst (λ (p : List Float). T (allWithin p)) (sym (f .ensures)) (filled-within (a .w) (a .h) (a .red) (a .green) (a .blue) (s .pre .1)),
+      omega arith,
     )
 
 same-length : tie.Need-same-length
@@ -41,7 +42,7 @@ returns c =
     let p = c .before .before .paint-part in
     let list = slice 0 (a .list .count) (a .list .items) in
     let long = f .kept .1 .1 .1 .1 .1 .0 ∙ s .pre .2 in (
-      same-whole (a .w) (p .last .1 .1 .1 .1 .1 .1 .0) (paintedOn (shapePainted (a .w) (a .h)) filled-canvas list) (p .kept .1 .1 .1 .1 .1 .1 .0 ∙ long ∙ sym (painted-on-length (a .w) (a .h) list filled-canvas long)) (p .ensures .0)
+      same-whole (a .w) (a .h) (p .last .1 .1 .1 .1 .1 .1 .1 .0) (paintedOn (shapePainted (a .w) (a .h)) filled-canvas list) (p .kept .1 .1 .1 .1 .1 .1 .1 .0 ∙ long) (painted-on-length (a .w) (a .h) list filled-canvas long) (p .ensures .0)
           ∙ ap (λ (q : List Float). paintedOn (shapePainted (a .w) (a .h)) q list) (f .ensures),
       p .ensures .1,
     )

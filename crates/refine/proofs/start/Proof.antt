@@ -22,7 +22,7 @@ sum-rows-requires : tie.Need-sum-rows-requires
 sum-rows-requires c κs =
     let s = c .before .before .before .before .before .before .before in
     let d = c .before .before .before .draw in
-    (s .pre .0 .sized, s .pre .2, d .kept .1 .1 .1 .1 .1 .1 .0 ∙ s .pre .3, d .ensures .1, omega arith)
+    (s .pre .0 .sized, s .pre .2, d .kept .1 .1 .1 .1 .1 .1 .0 ∙ s .pre .3, d .ensures .1, omega arith, omega arith)
 
 mul-old : tie.Need-mul-old
 mul-old c = search needs
@@ -41,7 +41,7 @@ summed c =
     let a = c .before .before .before .before .before .before .before .before .args in
     let d = c .before .before .before .before .draw in
     let p = d .last .1 .1 .1 .1 .1 .1 .0 in
-    subst (λ (q : List Float). summing (a .w) (a .h) (a .target .now) q (c .sum-rows .result)) (d .ensures .0) (c .sum-rows .ensures p (λ i k. refl) (sums-none (a .w) (a .target .now) p (replicate 257 nought) refl))
+    subst (λ (q : List Float). summing (a .w) (a .h) (a .target .now) q (c .sum-rows .result)) (d .ensures .0) (c .sum-rows .ensures p (λ i l k. refl) (sums-none (a .w) (a .target .now) p (replicate 257 nought) refl))
 
 returns : tie.Need-returns
 returns c =

@@ -4,7 +4,7 @@ use native.Mathlib.Omega.{arith}
 use mathlib.Core.Bool.{true, false}
 use mathlib.Core.List.{List}
 use mathlib.Core.Option.{Option, some}
-use mathlib.Core.Path.{_≡_, sym, ap, subst, _∙_}
+use mathlib.Core.Path.{_≡_, refl, sym, ap, subst, _∙_}
 use Prim.Native.Nat.{ℕ, _*_}
 use lib.Dec.{T}
 use lib.Ieee.{Float, nan, round, ofBits}
@@ -18,7 +18,7 @@ use Rattle.refine.specs.declared.Course.{Course}
 use Rattle.refine.specs.declared.Sums.{Sums}
 use Rattle.refine.specs.Refinement.{Scene, drawn, lower}
 use Rattle.refine.specs.Scenes.{sceneWith}
-use Rattle.refine.specs.Courses.{CandidateFits, Held, Stepped, summing}
+use Rattle.refine.specs.Courses.{CandidateFits, Held, Stepped, Judged, summing}
 use Rattle.refine.specs.PartLaws.{part-on, all-on, trial-on}
 use Rattle.refine.specs.SumLaws.{sums-last}
 use Rattle.refine.specs.CourseLaws.{stepped-none, stepped-kept, stepped-taken}
@@ -103,17 +103,34 @@ module _ (t : tie.After-try-candidate) (b : List Float) (f : ℕ → Option Shap
       let c = s .args .c in
       t .try-candidate .ensures .0 ∙ part-on (sceneAt s b f) (c .list .items) (c .list .count) (s .args .first .now) (c .made) (c .place) (d .behind) (omega (arith, s .pre .place)) (d .some-drawn)
 
-  new-sums : sumsAt (startAt t) (sceneAt (startAt t) b f .paint (shapeAt t) (drawn (sceneAt (startAt t) b f) (without (startAt t .args .c .place) (listed (startAt t .args .c .list))))) (t .try-candidate .result)
-  new-sums =
+  -- the trial's picture, as the rule has it
+  abbrev trialAt : List Float
+  trialAt = sceneAt (startAt t) b f .paint (shapeAt t) (drawn (sceneAt (startAt t) b f) (without (startAt t .args .c .place) (listed (startAt t .args .c .list))))
+
+  abbrev newAt : Float
+  newAt = getD (t .try-candidate .result .rows) (startAt t .args .h) nan
+
+  judged : Judged (startAt t .args .w) (startAt t .args .h) (startAt t .args .target .now) trialAt (startAt t .args .c .sums) (t .try-candidate .result)
+  judged =
       let s = startAt t in
       let c = s .args .c in
-      subst (λ (p : List Float). sumsAt s p (t .try-candidate .result)) (trial-on (sceneAt s b f) (c .list .items) (c .list .count) (firstAt t) (c .place) (shapeAt t) drawn-before)
+      subst (λ (p : List Float). Judged (s .args .w) (s .args .h) (s .args .target .now) p (c .sums) (t .try-candidate .result)) (trial-on (sceneAt s b f) (c .list .items) (c .list .count) (firstAt t) (c .place) (shapeAt t) drawn-before)
       (t .try-candidate .ensures .2
       (subst (λ (p : List Float). sumsAt s p (c .sums)) (sym (all-on (sceneAt s b f) (c .list .items) (c .list .count) (firstAt t) (c .place) (omega (arith, s .pre .place)) drawn-before)) (d .kept .sums)))
 
-  new-total : getD (t .try-candidate .result .rows) (startAt t .args .h) nan
-      ≡ sceneAt (startAt t) b f .total (sceneAt (startAt t) b f .paint (shapeAt t) (drawn (sceneAt (startAt t) b f) (without (startAt t .args .c .place) (listed (startAt t .args .c .list)))))
-  new-total = let a = startAt t .args in sums-last (a .w) (a .h) (a .target .now) _ (t .try-candidate .result) (startAt t .pre .aim .long) new-sums
+  -- the last of the list's sums is its total
+  old-at : getD (startAt t .args .c .sums .rows) (startAt t .args .h) nan ≡ startAt t .args .c .old
+  old-at = let a = startAt t .args in sums-last (a .w) (a .h) (a .target .now) _ (a .c .sums) (startAt t .pre .aim .long) (d .kept .sums) ∙ sym (d .kept .total)
+
+  verdict : lower newAt (startAt t .args .c .old) ≡ lower (sceneAt (startAt t) b f .total trialAt) (startAt t .args .c .old)
+  verdict = subst (λ (o : Float). lower newAt o ≡ lower (sceneAt (startAt t) b f .total trialAt) o) old-at (judged .verdict)
+
+  module _ (l : lower (getD (t .try-candidate .result .rows) (startAt t .args .h) nan) (startAt t .args .c .old) ≡ true) where
+    new-sums : sumsAt (startAt t) trialAt (t .try-candidate .result)
+    new-sums = judged .sums (ap (lower newAt) old-at ∙ l)
+
+    new-total : newAt ≡ sceneAt (startAt t) b f .total trialAt
+    new-total = let a = startAt t .args in sums-last (a .w) (a .h) (a .target .now) _ (t .try-candidate .result) (startAt t .pre .aim .long) new-sums
 
 is-lower : (c : tie.Then1) → lower (getD (c .before .before .before .before .before .before .before .try-candidate .result .rows) (c .before .before .before .before .before .before .before .before .before .before .before .before .before .before .before .before .before .before .args .h) nan) (c .before .before .before .before .before .before .before .before .before .before .before .before .before .before .before .before .before .before .args .c .old) ≡ true
 unfolding lower round ofBits
@@ -126,9 +143,9 @@ returns-2 c b f e d =
     let a = s .args in
     subst (λ (r : Course). Stepped (sceneAt s b f) (sizeAt s) (sumsAt s) (a .c) r (firstAt t) (secondAt t)) (sym (c .accept .ensures))
     (stepped-taken (sceneAt s b f) (sizeAt s) (sumsAt s) (a .c) (a .first .now) (a .second .now) d (shapeAt t) (getD (t .try-candidate .result .rows) (a .h) nan)
-    (firstAt t) (secondAt t) (e ∙ ap shapeIn (t .before .before .before .before .before .before .what .given .1)) (new-total t b f d) (drawn-before t b f d)
+    (firstAt t) (secondAt t) (e ∙ ap shapeIn (t .before .before .before .before .before .before .what .given .1)) (new-total t b f d (is-lower (c .before .before))) (drawn-before t b f d)
     (t .try-candidate .kept .1 .1 .1 .1 .1 .1 .1 .1 .0 ∙ s .pre .first-long) (t .try-candidate .kept .1 .1 .1 .1 .1 .1 .1 .1 .1 .0 ∙ s .pre .second-long) (t .try-candidate .ensures .1)
-    (c .before .exchange .result) (t .try-candidate .result) (new-sums t b f d) (is-lower (c .before .before)) (chosen (t .before .before .before .before .before .before)) (s .pre .place) (c .before .exchange .ensures))
+    (c .before .exchange .result) (t .try-candidate .result) (new-sums t b f d (is-lower (c .before .before))) (is-lower (c .before .before)) (chosen (t .before .before .before .before .before .before)) (s .pre .place) (c .before .exchange .ensures))
 
 same-length-3 : tie.Need-same-length-3
 same-length-3 c = search needs
@@ -146,10 +163,10 @@ returns-3 c b f e d =
     let s = startAt t in
     let a = s .args in
     subst (λ (r : Course). Stepped (sceneAt s b f) (sizeAt s) (sumsAt s) (a .c) r (firstAt t) (secondAt t)) (sym (c .rise2 .ensures))
-    (stepped-kept (sceneAt s b f) (sizeAt s) (sumsAt s) (a .c) (a .first .now) (a .second .now) d (shapeAt t) (getD (t .try-candidate .result .rows) (a .h) nan)
-    (firstAt t) (secondAt t) (e ∙ ap shapeIn (t .before .before .before .before .before .before .what .given .1)) (new-total t b f d) (drawn-before t b f d)
+    (stepped-kept (sceneAt s b f) (sizeAt s) (sumsAt s) (a .c) (a .first .now) (a .second .now) d (shapeAt t) (sceneAt s b f .total (trialAt t b f d))
+    (firstAt t) (secondAt t) (e ∙ ap shapeIn (t .before .before .before .before .before .before .what .given .1)) refl (drawn-before t b f d)
     (t .try-candidate .kept .1 .1 .1 .1 .1 .1 .1 .1 .0 ∙ s .pre .first-long) (t .try-candidate .kept .1 .1 .1 .1 .1 .1 .1 .1 .1 .0 ∙ s .pre .second-long) (t .try-candidate .ensures .1)
-    (not-lower (c .before)))
+    (sym (verdict t b f d) ∙ not-lower (c .before)))
 
 pub step-spec : {M : Type 1} → statement M
 step-spec =
