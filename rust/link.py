@@ -103,20 +103,35 @@ def eights(text):
     return found
 
 
+def assembled(name, lines):
+    """A Rust item with a routine in assembly."""
+    every = [f".global {name}", f"{name}:", "stp x29, x30, [sp, #-16]!", "mov x29, sp", *lines, "mov sp, x29", "ldp x29, x30, [sp], #16", "ret"]
+    return "std::arch::global_asm!(" + ", ".join(f'"{line}"' for line in every) + ");\n"
+
+
 # Our modules hand over a struct as C does on x86-64: above 16 bytes at a place that comes as the first argument, else in the registers
-# for whole numbers or for floats, eight bytes in each. Compiled for Arm they still do, and C there wants the first in a register of its
-# own, and the others in those for whole numbers.
+# for whole numbers or for floats, eight bytes in each; one that is taken lies on the stack. Compiled for Arm they still do, and C there
+# wants the first place in a register of its own, small ones in the registers for whole numbers, and takes a large one by its place.
 def turned(name, args, result, known):
-    """On Arm: Rust's words before the call, the declaration's and the call's first parts, what follows, and more source."""
+    """On Arm: Rust's words before the call, the declaration's and the call's first parts, what follows, more source, the routine's name."""
     parts = eights(known[result])
+    if args and args[0][1] in known:
+        over, taken = f"over_{name}", eights(known[args[0][1]])
+        if len(parts) <= 2 or len(taken) <= 2:
+            die(f"the export {name} takes a struct, and rust/link.py does not know how to turn it for Arm")
+        room = (len(taken) + 1) // 2 * 16
+        lines = [f"sub sp, sp, #{room}"]
+        for i in range(len(taken)):
+            lines += [f"ldr x9, [x1, #{8 * i}]", f"str x9, [sp, #{8 * i}]"]
+        lines += [f"mov x{i}, x{i + 1}" for i in range(1, 7)] + [f"bl {name}"]
+        return f"let mut answer = std::mem::MaybeUninit::<{result}>::uninit(); ", [f"answer: *mut {result}"], ["answer.as_mut_ptr()"], "; answer.assume_init()", assembled(over, lines), over
     if len(parts) > 2:
         return f"let mut answer = std::mem::MaybeUninit::<{result}>::uninit(); ", [f"answer: *mut {result}"], ["answer.as_mut_ptr()"], "; answer.assume_init()", "", name
     if parts[-1] <= {"f32", "f64"} and not parts[0] <= {"f32", "f64"}:
-        if len(args) > 8:
+        if len(args) > 6:
             die(f"the export {name} takes more than Arm's eight registers: rust/link.py does not know how to turn its answer")
         over = f"over_{name}"
-        lines = [f".global {over}", f"{over}:", "stp x29, x30, [sp, #-16]!", f"bl {name}", "fmov x1, d0", "ldp x29, x30, [sp], #16", "ret"]
-        return "", [], [], "", "std::arch::global_asm!(" + ", ".join(f'"{line}"' for line in lines) + ");\n", over
+        return "", [], [], "", assembled(over, [f"bl {name}", "fmov x1, d0"]), over
     if any(p & {"f32", "f64"} and not p - {"f32", "f64"} for p in parts):
         die(f"the export {name} answers a struct that rust/link.py does not know how to turn for Arm")
     return "", [], [], "", "", name
@@ -138,13 +153,16 @@ def bound(export, known, arm=False):
             pointer = "*mut" if one.group(1) else "*const"
             declared.append(f"{arg}: {pointer} {one.group(2)}")
             handed.append(arg)
+        elif arm and kind in known:
+            declared.append(f"{arg}: *const {kind}")
+            handed.append(f"&{arg}")
         elif re.fullmatch(SCALAR, kind) or kind in known:
             declared.append(f"{arg}: {kind}")
             handed.append(arg)
         else:
             die(f"the export {name} has a parameter of the type {kind}, which rust/link.py does not know")
     back = f" -> {result}" if result else ""
-    before, first, given, after, more, called = turned(name, declared, result, known) if arm and result in known else ("", [], [], "", "", name)
+    before, first, given, after, more, called = turned(name, args, result, known) if arm and result in known else ("", [], [], "", "", name)
     return (
         f"    pub fn {called}({', '.join(first + declared)}){'' if first else back};",
         f"{more}#[inline]\npub fn {name}({', '.join(taken)}){back} {{\n    unsafe {{ {before}c::{called}({', '.join(given + handed)}){after} }}\n}}\n",
