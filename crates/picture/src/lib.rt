@@ -23,7 +23,7 @@ use brush::Brush;
 use cover::Kind;
 use cover::reached::Rows;
 
-pub mod rows;
+pub mod running;
 
 pub struct Colour {
     pub red: f32,

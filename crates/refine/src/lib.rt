@@ -142,7 +142,7 @@ fn sum_rows(
     let mut y = top;
     while y < bottom {
         let so_far = sums.rows[y];
-        let sum = picture::rows::total_on(target, canvas, y * w * 3, w * 3, so_far);
+        let sum = picture::running::total_on(target, canvas, y * w * 3, w * 3, so_far);
         sums.rows[y + 1] = sum;
         y += 1;
     }

@@ -6,8 +6,8 @@ use Rattle.picture.specs.Rows.{totalOn}
 use Rattle.picture.specs.RowTotals.{on-none, on-more}
 use borrow.Author.Needs.{needs}
 use native.Mathlib.Omega.{arith}
-use Rattle.picture.proofs.rows.total_on.Statement.{statement}
-use Rattle.picture.proofs.rows.total_on.Tie as tie
+use Rattle.picture.proofs.running.total_on.Statement.{statement}
+use Rattle.picture.proofs.running.total_on.Tie as tie
 
 abbrev Inv-loop : tie.InvT-loop
 Inv-loop target canvas from count sum total₀ i₀ total i = (i ≤ count) × (total ≡ totalOn target canvas sum from i)
