@@ -237,23 +237,14 @@ fn try_candidate(
 }
 
 // No acceptance: j rises by one.
-fn rise(c: Course, made: usize) -> Course
+fn rise(mut c: Course, made: usize) -> Course
     requires { ⌜ (c .place < 64) × (c .trials < 1024) ⌝ }
     ensures { λ r. ⌜ r ≡ risen c made ⌝ }
 {
-    let list = c.list;
-    let sums = c.sums;
-    let trials = c.trials + 1;
-    Course {
-        list,
-        place: c.place + 1,
-        passes: c.passes,
-        trials,
-        acceptances: c.acceptances,
-        made,
-        old: c.old,
-        sums,
-    }
+    c.place += 1;
+    c.trials += 1;
+    c.made = made;
+    c
 }
 
 // The list with the exchange made: j stays, and the candidate's total and sums are those of the list.
