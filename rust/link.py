@@ -288,12 +288,19 @@ def archives(folder=None, only=None):
     return words
 
 
-def program(name):
-    """Proves and builds a program of ours; answers the words that run it."""
+def program(name, native=False):
+    """Proves and builds a program of ours; answers the words that run it. With native: its module compiled for this machine."""
     need("rt", "the Rattle toolchain proves and builds our programs")
     done = subprocess.run(["rt", "check", name], cwd=ROOT, stdout=subprocess.PIPE, stderr=subprocess.STDOUT, text=True)
     if done.returncode != 0:
         die(done.stdout + f"rt check {name} failed")
+    if native and platform.machine() != "x86_64":
+        out, now = os.path.join(TARGET, "native", name), digest(name)
+        if not made(out, now):
+            os.makedirs(os.path.dirname(out), exist_ok=True)
+            call(["sh", os.path.join(ROOT, "bench", "native-archive"), name, out], cwd=ROOT)
+            write(out + ".of", now)
+        return [out]
     runner = [] if platform.machine() == "x86_64" else ["qemu-x86_64"]
     return [*runner, os.path.join(TARGET, "bin", name)]
 
