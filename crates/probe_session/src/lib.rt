@@ -1,9 +1,9 @@
 // Frames in memory, exported for the benchmark and the differential runs. Nothing that ships links this crate.
 use frame::Answer;
+use held::Asked;
+use held::State;
 use lines::Line;
 use lines::MALFORMED;
-use session::Asked;
-use session::State;
 use session::Stepped;
 ghost use Rattle.session.specs.Held.{Holds};
 
@@ -28,7 +28,7 @@ fn answer(
     let read = frame::read_line(line, text);
     let frame = read.frame;
     let bytes = read.bytes;
-    let Asked::Of(request) = session::ask(frame) else {
+    let Asked::Of(request) = held::ask(frame) else {
         return Stepped {
             state: s,
             answer: Answer::Refused(MALFORMED),
@@ -115,7 +115,7 @@ pub extern "C" fn probe_frames(input: &[u8], out: &mut [u8]) -> usize {
     let mut target = [0.0f32; 768];
     let mut canvas = [0.0f32; 768];
     let mut table = [0.0f64; 4080];
-    let state = session::start();
+    let state = held::start();
     take_all(
         input,
         &mut text,

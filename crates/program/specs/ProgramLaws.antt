@@ -13,13 +13,14 @@ use Rattle.frame.specs.ReadLaws.{line-asks-unique, told-reads}
 use Rattle.frame.specs.declared.Read.{Read}
 use Rattle.frame.specs.declared.Answer.{Answer}
 use Rattle.frame.specs.declared.Answer.the-variants.{Refused}
-use Rattle.session.specs.declared.State.{State}
-use Rattle.session.specs.declared.Request as asked
-use Rattle.session.specs.declared.Asked.the-variants.{Of, Bad}
+use Rattle.held.specs.declared.State.{State}
+use Rattle.held.specs.declared.Request as asked
+use Rattle.held.specs.declared.Asked.the-variants.{Of, Bad}
 use Rattle.session.specs.declared.Stepped.{Stepped}
 use Rattle.session.specs.Session.{Session, answer, after}
-use Rattle.session.specs.Held.{sessionOf, requestOf, askedOf, StepSays}
-use Rattle.session.specs.HeldLaws.{read-asks}
+use Rattle.held.specs.Asking.{requestOf, askedOf}
+use Rattle.session.specs.Held.{sessionOf, StepSays}
+use Rattle.held.specs.AskingLaws.{read-asks}
 use Rattle.program.specs.Program.{LineGives, Gives, none, more, Answers}
 
 -- ---- one answer

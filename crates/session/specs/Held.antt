@@ -8,15 +8,11 @@ use lib.ListN.{length, take, drop}
 use lib.Ieee.{Float}
 use Rattle.float.specs.Within.{allWithin}
 use Rattle.table.specs.Table.{Table}
-use Rattle.frame.specs.declared.Frame.{Frame}
-use Rattle.frame.specs.declared.Frame.the-variants as frame
 use Rattle.frame.specs.Frames as frames
 use Rattle.frame.specs.declared.Answer.{Answer}
-use Rattle.session.specs.declared.State.{State}
-use Rattle.session.specs.declared.Request.{Request}
-use Rattle.session.specs.declared.Request.the-variants.{New, Row, Score, Paint}
-use Rattle.session.specs.declared.Asked.{Asked}
-use Rattle.session.specs.declared.Asked.the-variants.{Of, Bad}
+use Rattle.held.specs.declared.State.{State}
+use Rattle.held.specs.declared.Request.{Request}
+use Rattle.held.specs.Asking.{noPicture, requestOf}
 use Rattle.session.specs.declared.Stepped.{Stepped}
 use Rattle.session.specs.Session.{Session, nothing, drawing, after, answer}
 
@@ -41,9 +37,6 @@ pictureSize s = s .h * s .w * 3
 abbrev pub tableSize : State → ℕ
 tableSize s = s .h * (s .w + 1) * 15
 
-abbrev pub noPicture : State
-noPicture = record { w = 0; h = 0; painted = false }
-
 pub data Standing (s : State) (target canvas table : List Float) : Type 0 where
   none : s ≡ noPicture → Standing s target canvas table
   some : Sheet (s .w) (s .h) (take (pictureSize s) target) (take (pictureSize s) canvas) (take (tableSize s) table)
@@ -59,38 +52,10 @@ unfoldable pub sessionOf : State → List Float → List Float → Session
 sessionOf s target canvas =
     cond (eqb (s .w) 0) nothing (drawing (s .w) (s .h) (s .painted) (take (pictureSize s) target) (take (pictureSize s) canvas))
 
--- ---- a request by value: the pixels of a row stand among the frame's bytes, from the third on
-abbrev pub requestOf : Request → List ℕ → frames.Request
-requestOf (New w h r g b) bytes = frames.new w h r g b
-requestOf (Row y n) bytes = frames.row y (take n (drop 2 bytes))
-requestOf (Score kind opacity) bytes = frames.score kind opacity
-requestOf (Paint kind opacity) bytes = frames.paint kind opacity
-
--- they are all there
-abbrev pub Carried : Request → List ℕ → Type 0
-Carried (New w h r g b) bytes = Unit {0}
-Carried (Row y n) bytes = 2 + n ≤ length bytes
-Carried (Score kind opacity) bytes = Unit {0}
-Carried (Paint kind opacity) bytes = Unit {0}
-
--- a decoded frame is a request or a refusal number
-abbrev pub askedOf : Frame → Asked
-askedOf (frame.New w h r g b) = Of (New w h r g b)
-askedOf (frame.Row y n) = Of (Row y n)
-askedOf (frame.Score kind opacity) = Of (Score kind opacity)
-askedOf (frame.Paint kind opacity) = Of (Paint kind opacity)
-askedOf (frame.Bad k) = Bad k
-
 abbrev pub stepped : State → Answer → Stepped
 stepped s a = record { state = s; answer = a }
 
 -- ---- the promises
-abbrev pub StartSays : State → Type 0
-StartSays r = r ≡ noPicture
-
-abbrev pub AskSays : Frame → Asked → Type 0
-AskSays f r = r ≡ askedOf f
-
 -- the rule's step from the state held before to the state held after; what lies behind the pictures and the table stays
 pub record StepTakes (s : State) (q : frames.Request) (target canvas table : List Float) (r : Stepped) (target′ canvas′ table′ : List Float) : Type 0 where
   pub answered : r .answer ≡ answer (sessionOf s target canvas) q

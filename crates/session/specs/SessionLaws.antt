@@ -29,11 +29,12 @@ use Rattle.frame.specs.declared.Values.{Values}
 use Rattle.frame.specs.declared.Answer.{Answer}
 use Rattle.frame.specs.declared.Answer.the-variants.{Made, Set, Scored, Painted, Refused}
 use Rattle.frame.specs.Frames.{Request, new, row, score, paint}
-use Rattle.session.specs.declared.State.{State}
-use Rattle.session.specs.declared.Request as asked
+use Rattle.held.specs.declared.State.{State}
+use Rattle.held.specs.declared.Request as asked
+use Rattle.held.specs.Asking.{noPicture, requestOf}
 use Rattle.session.specs.declared.Stepped.{Stepped}
 use Rattle.session.specs.Session.{Session, nothing, drawing, channel, badSides, misplaced, shapeTests, refusal, scoreOf, paintedOf, valuesOf, taken, given, after, answer}
-use Rattle.session.specs.Held.{Sides, Sheet, pictureSize, tableSize, noPicture, Standing, none, some, Holds, sessionOf, requestOf, stepped, StepTakes}
+use Rattle.session.specs.Held.{Sides, Sheet, pictureSize, tableSize, Standing, none, some, Holds, sessionOf, stepped, StepTakes}
 use Rattle.session.specs.SheetLaws.{table-sums}
 
 -- ---- what is held

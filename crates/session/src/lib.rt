@@ -5,67 +5,22 @@ ghost use Prim.Native.Nat.{_+_, _≤_};
 ghost use lib.ListN.{length, take, drop};
 ghost use Rattle.frame.specs.declared.Answer.the-variants.{Refused};
 ghost use Rattle.session.specs.Session.{badSides, valuesOf};
-ghost use Rattle.session.specs.Held.{Holds, Carried, stepped, StartSays, AskSays, StepTakes, StepSays};
+ghost use Rattle.held.specs.Asking.{Carried};
+ghost use Rattle.session.specs.Held.{Holds, stepped, StepTakes, StepSays};
 use cover::Kind;
 use frame::Answer;
-use frame::Frame;
 use frame::Values;
+use held::Request;
+use held::State;
 use lines::MALFORMED;
 use score::Score;
 use score::Scored;
 
 mod sheet;
 
-// The sizes of the picture, width 0 before there is one, and whether it was painted on.
-pub struct State {
-    pub w: usize,
-    pub h: usize,
-    pub painted: bool,
-}
-
-// What a frame asks for.
-pub enum Request {
-    // w, h, r, g, b
-    New(u8, u8, u8, u8, u8),
-    // y, and how many pixel bytes there are: they stand among the frame's bytes from the third on
-    Row(u8, usize),
-    // the shape and the bits of its opacity
-    Score(Kind, u32),
-    Paint(Kind, u32),
-}
-
-// A frame gives a request or a refusal number.
-pub enum Asked {
-    Of(Request),
-    Bad(u8),
-}
-
 pub struct Stepped {
     pub state: State,
     pub answer: Answer,
-}
-
-// Before the first frame.
-pub fn start() -> State
-    ensures { λ r. ⌜ StartSays r ⌝ }
-{
-    State {
-        w: 0,
-        h: 0,
-        painted: false,
-    }
-}
-
-pub fn ask(frame: Frame) -> Asked
-    ensures { λ r. ⌜ AskSays frame r ⌝ }
-{
-    match frame {
-        Frame::New(w, h, r, g, b) => Asked::Of(Request::New(w, h, r, g, b)),
-        Frame::Row(y, n) => Asked::Of(Request::Row(y, n)),
-        Frame::Score(kind, opacity) => Asked::Of(Request::Score(kind, opacity)),
-        Frame::Paint(kind, opacity) => Asked::Of(Request::Paint(kind, opacity)),
-        Frame::Bad(number) => Asked::Bad(number),
-    }
 }
 
 fn bad_sides(w: usize, h: usize) -> bool

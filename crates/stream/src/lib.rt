@@ -1,12 +1,12 @@
 // Frames from standard input, an answer to standard output for each line as soon as it has ended.
 // No contract can say what is read or written; what is proved is that the running state stays that of `session`.
 use frame::Answer;
+use held::Asked;
+use held::State;
 use libc::STDIN_FILENO;
 use libc::STDOUT_FILENO;
 use lines::Line;
 use lines::MALFORMED;
-use session::Asked;
-use session::State;
 ghost use mathlib.Core.Path.{_≡_};
 ghost use lib.ListN.{length};
 ghost use Rattle.session.specs.Held.{Holds};
@@ -49,7 +49,7 @@ fn answer(
     let read = frame::read_line(line, text);
     let frame = read.frame;
     let bytes = read.bytes;
-    let Asked::Of(request) = session::ask(frame) else {
+    let Asked::Of(request) = held::ask(frame) else {
         let open = print(Answer::Refused(MALFORMED));
         return Told { state: s, open };
     };
@@ -169,7 +169,7 @@ pub fn run() {
     let mut canvas = [0.0f32; 768];
     let mut table = [0.0f64; 4080];
     let line = lines::start();
-    let state = session::start();
+    let state = held::start();
     let mut g = Going {
         line,
         state,

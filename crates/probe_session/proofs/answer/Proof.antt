@@ -1,6 +1,6 @@
 -- `probe_session::answer`: a request that was read is carried by its bytes, so that the step may be taken.
 use mathlib.Core.Path.{sym, _∙_}
-use Rattle.session.specs.HeldLaws.{read-carries}
+use Rattle.held.specs.AskingLaws.{read-carries}
 use borrow.Author.Needs.{needs}
 use Rattle.probe_session.proofs.answer.Statement.{statement}
 use Rattle.probe_session.proofs.answer.Tie as tie

@@ -1,9 +1,9 @@
--- `session::ask` meets its contract, by cases on the frame.
+-- `held::ask` meets its contract, by cases on the frame.
 use mathlib.Core.Path.{sym, ap}
-use Rattle.session.specs.Held.{askedOf}
+use Rattle.held.specs.Asking.{askedOf}
 use borrow.Author.Needs.{needs}
-use Rattle.session.proofs.ask.Statement.{statement}
-use Rattle.session.proofs.ask.Tie as tie
+use Rattle.held.proofs.ask.Statement.{statement}
+use Rattle.held.proofs.ask.Tie as tie
 
 enum-known-frame : tie.Need-enum-known-frame
 enum-known-frame c = search needs
