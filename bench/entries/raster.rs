@@ -155,6 +155,9 @@ fn pictures() -> Vec<Entry> {
     let c: Vec<f32> = (0..n).map(|_| d.below(256) as f32 / 255.0).collect();
     let (t2, t3, c3, t4, c4) = (t.clone(), t.clone(), c.clone(), t.clone(), c.clone());
     let mut canvas = vec![0.5f32; n];
+    // a quad around the picture: blending and little else
+    let around = [-1, -1, 300, -1, 300, 300, -1, 300];
+    let (mut ours_painted, mut rust_painted) = (t.clone(), t.clone());
     let units = (SIDE * SIDE) as u64;
     let bits = |x: [f32; 3]| x.iter().fold(0, |s, y| taken(s, y.to_bits() as u64));
     vec![
@@ -166,6 +169,18 @@ fn pictures() -> Vec<Entry> {
                 sampled(&canvas)
             }),
             rust: Box::new(move || sampled(&common::filled_canvas(P, SIDE as u32, SIDE as u32))),
+        },
+        Entry {
+            name: "paint, quad around 256 by 256, a pixel",
+            units,
+            ours: Box::new(move || {
+                blend(3, &around, &mut ours_painted);
+                sampled(&ours_painted)
+            }),
+            rust: Box::new(move || {
+                rust_blend(3, &around, &mut rust_painted);
+                sampled(&rust_painted)
+            }),
         },
         Entry {
             name: "mean, 256 by 256, a pixel",
