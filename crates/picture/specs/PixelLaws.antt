@@ -10,14 +10,15 @@ use lib.Dec.{T, ltb, eqb}
 use lib.ListN.{length, getD, take, set, length-set}
 use lib.IntN.{pos}
 use lib.Seq.{take-all, getD-take, length-take-le}
-use lib.Ieee.{Float, nan, inf, fin, Format, binary64, round, sum, add, sub, neg, ofInt}
+use lib.Ieee.{Float, nan, inf, fin, Format, binary32, binary64, round, sum, add, sub, neg, ofInt}
 use lib.Ieee.Fits.{and-l, and-r}
 use Rattle.laws.specs.Answer.{Answer}
 use Rattle.laws.specs.Bools.{is-true, true-is, true-or-false, and-left, and-right, and-both, or-left, or-right}
 use Rattle.laws.specs.Before.{before}
 use Rattle.laws.specs.BeforeLaws.{before-none, before-more}
 use Rattle.laws.specs.EveryLaws.{every-each, every-step, every-take}
-use Rattle.laws.specs.F64.{_⊕_, _⊘_}
+use Rattle.laws.specs.F32.{_⊟_}
+use Rattle.laws.specs.F64.{_⊕_, _⊗_, _⊘_}
 use Rattle.laws.specs.Fit.{no-both}
 use Rattle.laws.specs.Fill.{agree-more, agree-all}
 use Rattle.laws.specs.Index.{index-mod}
@@ -26,18 +27,20 @@ use Rattle.laws.specs.PictureLaws.{length-list, list-number, list-every}
 use Rattle.float.specs.Within.{nought, number, within, allWithin}
 use Rattle.float.specs.Narrowed.{narrowed}
 use Rattle.float.specs.WithinLaws.{Says, says, within-number}
-use Rattle.float.specs.Numbers.{round-no-nan}
+use Rattle.float.specs.Capped.{capped, raised, LargerPatternSays}
+use Rattle.float.specs.CappedLaws.{sum-number, held-number, capped-shows, raised-shows, one-more}
 use Rattle.refusal.specs.Refusals.{Sized, badSize, lowest, sizeIf, lengthIf, pixelIf}
 use Rattle.refusal.specs.Lengths.{badPicture}
 use Rattle.refusal.specs.LengthLaws.{picture-length}
 use Rattle.refusal.specs.RefusalLaws.{sized}
 use Rattle.refusal.specs.ThreeTests.{passed, two-passed, at-third, at-none}
 use Rattle.picture.specs.declared.Colour.{Colour}
+use Rattle.picture.specs.declared.Sums.{Sums}
 use Rattle.picture.specs.declared.Mean.{Mean}
 use Rattle.picture.specs.declared.Mean.the-variants as mean
 use Rattle.picture.specs.declared.Total.{Total}
 use Rattle.picture.specs.declared.Total.the-variants as total
-use Rattle.picture.specs.Pixels.{badColour, BadColourSays, filled, fillRefusal, FillSays, FilledCanvasSays, channelSum, channelMean, meanOf, meanRefusal, meanAnswer, MeanRgbSays, squaredDifference, totalOf, totalTo, totalRefusal, totalAnswer, SseTotalSays, TotalAnySays, TotalWithinSays}
+use Rattle.picture.specs.Pixels.{badColour, BadColourSays, filled, fillRefusal, FillSays, FilledCanvasSays, channelSum, sumsTo, channelMean, meanOf, meanRefusal, meanAnswer, MeanRgbSays, squaredDifference, totalOf, totalTo, totalRefusal, totalAnswer, SseTotalSays, TotalAnySays, TotalWithinSays}
 
 -- ---- each promise has one answer
 pub BadColourSays-unique : (red green blue : Float) (r s : Bool) → BadColourSays red green blue r → BadColourSays red green blue s → r ≡ s
@@ -143,12 +146,32 @@ sum-more target ch i j s v e p q =
     ∙ ap (λ (t : Float). before nought _⊕_ (λ k. getD target (k * 3 + ch) nan) i ⊕ t) (q ∙ ap (λ (k : ℕ). getD target k nan) e)
     ∙ before-more nought _⊕_ (λ k. getD target (k * 3 + ch) nan) i
 
-pub mean-all : (w h : ℕ) (target : List Float) (n : ℕ) (red green blue r g b : Float) → n ≡ h * w
-    → red ≡ channelSum target 0 n → green ≡ channelSum target 1 n → blue ≡ channelSum target 2 n
-    → r ≡ narrowed (red ⊘ ofInt binary64 (pos n)) → g ≡ narrowed (green ⊘ ofInt binary64 (pos n)) → b ≡ narrowed (blue ⊘ ofInt binary64 (pos n))
+abbrev sums-of : Float → Float → Float → Sums
+sums-of r g b = record { red = r; green = g; blue = b }
+
+sums-same : (r g b x y z : Float) → r ≡ x → g ≡ y → b ≡ z → sums-of r g b ≡ sums-of x y z
+sums-same r g b x y z p q u = ap (λ (k : Float). sums-of k g b) p ∙ ap (λ (k : Float). sums-of x k b) q ∙ ap (λ (k : Float). sums-of x y k) u
+
+pub sums-none : (target : List Float) → sums-of nought nought nought ≡ sumsTo target 0
+unfolding sumsTo
+sums-none target = sums-same nought nought nought _ _ _ (sum-none target 0) (sum-none target 1) (sum-none target 2)
+
+-- pixel i, whose three numbers were added
+pub sums-more : (target : List Float) (i : ℕ) (s : Sums) (r g b : Float) → s ≡ sumsTo target i
+    → r ≡ getD target (i * 3) nan → g ≡ getD target (i * 3 + 1) nan → b ≡ getD target (i * 3 + 2) nan
+    → sums-of (s .red ⊕ r) (s .green ⊕ g) (s .blue ⊕ b) ≡ sumsTo target (i + 1)
+unfolding sumsTo
+sums-more target i s r g b p q u v =
+    sums-same (s .red ⊕ r) (s .green ⊕ g) (s .blue ⊕ b) _ _ _
+    (sum-more target 0 i (i * 3) (s .red) r (omega arith) (ap (λ (z : Sums). z .red) p) q)
+    (sum-more target 1 i (i * 3 + 1) (s .green) g refl (ap (λ (z : Sums). z .green) p) u)
+    (sum-more target 2 i (i * 3 + 2) (s .blue) b refl (ap (λ (z : Sums). z .blue) p) v)
+
+pub mean-all : (w h : ℕ) (target : List Float) (n : ℕ) (s : Sums) (r g b : Float) → n ≡ h * w → s ≡ sumsTo target n
+    → r ≡ narrowed (s .red ⊘ ofInt binary64 (pos n)) → g ≡ narrowed (s .green ⊘ ofInt binary64 (pos n)) → b ≡ narrowed (s .blue ⊘ ofInt binary64 (pos n))
     → _≡_ {A = Colour} (record { red = r; green = g; blue = b }) (meanOf w h target)
-unfolding meanOf channelMean
-mean-all w h target n red green blue r g b e p q s u v z = simp (u, v, z, p, q, s, e)
+unfolding meanOf channelMean sumsTo
+mean-all w h target n s r g b e p u v z = simp (u, v, z, p, e)
 
 pub few-pixels : (w h : ℕ) → Sized w h → h * w ≤ 65536
 few-pixels w h s = mul-le-mul (s .h-high) (s .w-high)
@@ -170,17 +193,6 @@ unfolding totalTo totalOf
 total-all target canvas n s e p = p ∙ ap (totalTo target canvas) e
 
 -- ---- the difference of two values within 0..1 is a number
-either : (k : Bool) (x y : Float) → T (number x) → T (number y) → T (number (cond k x y))
-either true x y p q = p
-either false x y p q = q
-
-sum-number : (f : Format) (s : Bool) (a : ℕ) (t : Bool) (b c : ℕ) → T (number (sum f s a t b c))
-unfolding sum
-sum-number f s a t b c =
-    either (Bool·beq s t) (round f s (a + b) c) (cond (ltb a b) (round f t (b - a) c) (round f (s && ltb b a) (a - b) c))
-    (round-no-nan f s (a + b) c)
-    (either (ltb a b) (round f t (b - a) c) (round f (s && ltb b a) (a - b) c) (round-no-nan f t (b - a) c) (round-no-nan f (s && ltb b a) (a - b) c))
-
 pub difference-number : (f : Format) (x y : Float) → T (within x) → T (within y) → T (number (sub f x y))
 unfolding sub add neg
 difference-number f x y h k = go x y (says x h) (says y k)
@@ -244,39 +256,32 @@ pixels-last w h target canvas e =
     go true false p q = at-third size lengths true 7 (omega arith) p q refl
     go false b p q = at-third size lengths true 7 (omega arith) p q refl
 
-crossed : (a b p q : Bool) → a && b && (p && q) ≡ (a && p) && (b && q)
-crossed true true p q = refl
-crossed true false true q = refl
-crossed true false false q = refl
-crossed false b p q = refl
+pub held-difference : (x y u v : Float) → u ≡ capped x → v ≡ raised y → T (number (u ⊟ v))
+held-difference x y u v p q =
+    subst (λ (z : Float). T (number (z ⊟ v))) (sym p) (subst (λ (z : Float). T (number (capped x ⊟ z))) (sym q) (held-number binary32 x y))
 
-pub both-step : (t c : List Float) (k : ℕ) (ok p q : Bool) → k < length t → k < length c → ok ≡ allWithin (take k t) && allWithin (take k c)
-    → p ≡ within (getD t k nan) → q ≡ within (getD c k nan) → ok && (p && q) ≡ allWithin (take (k + 1) t) && allWithin (take (k + 1) c)
-both-step t c k ok p q h l e f g =
-    ap (λ (z : Bool). z && (p && q)) e
-    ∙ crossed (allWithin (take k t)) (allWithin (take k c)) p q
-    ∙ ap (λ (z : Bool). z && (allWithin (take k c) && q)) (every-step within t k nan (allWithin (take k t)) p h refl f)
-    ∙ ap (λ (z : Bool). allWithin (take (k + 1) t) && z) (every-step within c k nan (allWithin (take k c)) q l refl g)
+-- one number more of each picture, capped and raised: where the largest pattern is at most that of 1.0, both were within 0..1, and left alone
+pub held-step : (t c : List Float) (i top q r : ℕ) (x y d sum : Float) → i < length t → i < length c
+    → x ≡ capped (getD t i nan) → y ≡ raised (getD c i nan) → LargerPatternSays top x q → LargerPatternSays q y r → d ≡ x ⊟ y
+    → (top ≤ 0x3F80_0000 → T (allWithin (take i t)) × T (allWithin (take i c)) × (sum ≡ totalTo t c i))
+    → r ≤ 0x3F80_0000 → T (allWithin (take (i + 1) t)) × T (allWithin (take (i + 1) c)) × (sum ⊕ (d ⊗ d) ≡ totalTo t c (i + 1))
+held-step t c i top q r x y d sum l m ex ey px py ed inv h =
+    let b = raised-shows (getD c i nan) y q r ey py h in
+    let a = capped-shows (getD t i nan) x top q ex px (b .0) in
+    let p = inv (a .0) in
+    let e : d ≡ getD t i nan ⊟ getD c i nan = ed ∙ ap (λ (v : Float). v ⊟ y) (a .2) ∙ ap (λ (v : Float). getD t i nan ⊟ v) (b .2) in
+    (one-more t i l (p .0) (a .1), one-more c i m (p .1) (b .1), total-more t c i sum (d ⊗ d) (p .2) (ap (λ (v : Float). v ⊗ v) e))
 
--- a part that is not within 0..1, and an element of one that is
-pub part-bad : (t c : List Float) (k : ℕ) → allWithin (take k t) && allWithin (take k c) ≡ false → allWithin t && allWithin c ≡ false
-part-bad t c k h =
-    ⊎-elim
-    (λ (y : allWithin t && allWithin c ≡ true).
-    no-both
-    (and-both (allWithin (take k t)) (allWithin (take k c))
-    (is-true (allWithin (take k t)) (every-take within k t (true-is (allWithin t) (and-left (allWithin t) (allWithin c) y))))
-    (is-true (allWithin (take k c)) (every-take within k c (true-is (allWithin c) (and-right (allWithin t) (allWithin c) y)))))
-    h)
-    (λ (n : allWithin t && allWithin c ≡ false). n)
-    (true-or-false (allWithin t && allWithin c))
+-- both pictures are within 0..1, or one is not
+abbrev seven : Bool → ℕ
+seven b = cond b 0 7
 
-pub part-all : (t c : List Float) (k : ℕ) → length t ≤ k → length c ≤ k → T (allWithin (take k t)) → T (allWithin (take k c)) → allWithin t && allWithin c ≡ true
-part-all t c k h l p q =
-    and-both (allWithin t) (allWithin c)
-    (ap allWithin (sym (take-all k t h)) ∙ is-true (allWithin (take k t)) p)
-    (ap allWithin (sym (take-all k c l)) ∙ is-true (allWithin (take k c)) q)
+pub both-within : (t c : List Float) → T (allWithin t) → T (allWithin c) → seven (allWithin t && allWithin c) ≡ seven true
+both-within t c p q = ap seven (and-both (allWithin t) (allWithin c) (is-true (allWithin t) p) (is-true (allWithin c) q))
 
-pub within-before : (xs : List Float) (n k : ℕ) → T (allWithin (take n xs)) → k < n → n ≤ length xs → T (within (getD xs k nan))
-within-before xs n k h l m =
-    subst (λ (x : Float). T (within x)) (getD-take n xs k nan l) (within-at (take n xs) k h (lt-of-lt-of-le l (le-of-eq (sym (length-take-le n xs m)))))
+pub first-out : (a b : Bool) → a ≡ false → seven (a && b) ≡ seven false
+first-out a b e = ap (λ (z : Bool). seven (z && b)) e
+
+pub second-out : (a b : Bool) → b ≡ false → seven (a && b) ≡ seven false
+second-out true b e = ap seven e
+second-out false b e = refl
