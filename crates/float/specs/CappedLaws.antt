@@ -2,13 +2,12 @@
 use mathlib.Core.Path.{_≡_, refl, sym, ap, _∙_, subst}
 use mathlib.Core.Bool.{Bool, true, false, not, _&&_, cond, Bool·beq}
 use mathlib.Core.List.{List}
-use Prim.Native.Nat.{ℕ, zero, suc, _+_, _-_, _*_, _/_, _%_, _^_, _≤_, _<_, zero-le}
-use native.Mathlib.Nat.{le-trans, le-of-eq, mod-eq-of-lt, mul-le-mul, mul-one, one-mul, zero-mul, not-le-of-lt}
+use Prim.Native.Nat.{ℕ, zero, suc, _+_, _-_, _*_, _/_, _%_, _^_, _≤_, _<_}
+use native.Mathlib.Nat.{le-trans, le-of-eq, mul-le-mul, zero-mul}
 use native.Mathlib.Omega.{arith}
 use lib.Dec.{T, leb, ltb, eqb, eqb→eq, leb→le, nleb→lt, ltb→lt, nltb→le, not-T, lit<, lit≤}
 use borrow.Author.Tests.{lt-leb}
-use lib.Pow.{pow-add, pow-pos, pow-mono}
-use lib.IntN.{pos}
+use lib.Pow.{pow-pos, pow-mono}
 use lib.ListN.{length, getD, take}
 use lib.Ieee.{Float, nan, inf, fin, Format, binary32, lt, eq, le, fits, isNan, odd, round, sum, ofFields, ofBits, toBits, add, sub, neg}
 use lib.Ieee.Bits.{cond-no, ofBits-toBits}

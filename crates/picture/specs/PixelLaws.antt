@@ -1,25 +1,22 @@
 -- Laws: the steps of fill, mean and total; the difference of two values within 0..1 is a number; a filled picture, a mean; each promise has one answer.
 use mathlib.Core.Path.{_≡_, refl, sym, ap, _∙_, subst}
-use mathlib.Core.Logic.{⊎-elim}
-use mathlib.Core.Bool.{Bool, true, false, not, _&&_, _||_, cond, Bool·beq, true≢false}
+use mathlib.Core.Bool.{Bool, true, false, not, _&&_, _||_, cond, true≢false}
 use mathlib.Core.List.{List, [], _∷_}
-use Prim.Native.Nat.{ℕ, zero, suc, _+_, _-_, _*_, _≤_, _<_}
-use native.Mathlib.Nat.{mul-le-mul, lt-of-lt-of-le, le-of-eq}
+use Prim.Native.Nat.{ℕ, zero, suc, _+_, _*_, _≤_, _<_}
+use native.Mathlib.Nat.{mul-le-mul}
 use native.Mathlib.Omega.{arith}
-use lib.Dec.{T, ltb, eqb}
+use lib.Dec.{T, eqb}
 use lib.ListN.{length, getD, take, set, length-set}
 use lib.IntN.{pos}
-use lib.Seq.{take-all, getD-take, length-take-le}
-use lib.Ieee.{Float, nan, inf, fin, Format, binary32, binary64, round, sum, add, sub, neg, ofInt}
+use lib.Ieee.{Float, nan, inf, fin, Format, binary32, binary64, sum, add, sub, neg, ofInt}
 use lib.Ieee.Fits.{and-l, and-r}
 use Rattle.laws.specs.Answer.{Answer}
-use Rattle.laws.specs.Bools.{is-true, true-is, true-or-false, and-left, and-right, and-both, or-left, or-right}
+use Rattle.laws.specs.Bools.{is-true, and-both, or-left, or-right}
 use Rattle.laws.specs.Before.{before}
 use Rattle.laws.specs.BeforeLaws.{before-none, before-more}
-use Rattle.laws.specs.EveryLaws.{every-each, every-step, every-take}
+use Rattle.laws.specs.EveryLaws.{every-each}
 use Rattle.laws.specs.F32.{_⊟_}
 use Rattle.laws.specs.F64.{_⊕_, _⊗_, _⊘_}
-use Rattle.laws.specs.Fit.{no-both}
 use Rattle.laws.specs.Fill.{agree-more, agree-all}
 use Rattle.laws.specs.Index.{index-mod}
 use Rattle.laws.specs.Pictures.{plain, channelOf}

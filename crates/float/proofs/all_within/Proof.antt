@@ -1,5 +1,5 @@
 -- While the largest pattern is at most that of 1.0, the elements passed are within 0..1.
-use mathlib.Core.Path.{_≡_, refl, sym, subst}
+use mathlib.Core.Path.{sym, subst}
 use Prim.Native.Nat.{_≤_, _-_}
 use lib.Dec.{T}
 use lib.ListN.{length, take, getD}

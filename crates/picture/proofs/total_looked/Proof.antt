@@ -1,5 +1,5 @@
 -- One picture that is not within 0..1, or the total of both.
-use mathlib.Core.Path.{_≡_, refl, sym, ap, _∙_, subst}
+use mathlib.Core.Path.{sym, _∙_}
 use lib.Dec.{T}
 use borrow.Author.Tests.{not-true, not-false}
 use Rattle.laws.specs.AnswerLaws.{answer-done, answer-refused}
