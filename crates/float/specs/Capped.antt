@@ -1,7 +1,7 @@
--- Rules: a float held to numbers, to 2 at most or to -2 at least; and the larger of two patterns, which shows what is within 0..1.
+-- Rules: a float held to numbers, to 2 at most; and the larger of two patterns, which shows what is within 0..1.
 -- For our own crates: a NaN becomes a number that is not within 0..1.
 use mathlib.Core.Path.{_≡_}
-use mathlib.Core.Bool.{true, false, cond}
+use mathlib.Core.Bool.{false, cond}
 use Prim.Native.Nat.{ℕ, _≤_}
 use lib.Dec.{T, ltb}
 use lib.IntN.{pos}
@@ -11,20 +11,11 @@ use Rattle.float.specs.Within.{within}
 abbrev pub two : Float
 two = fin false 1 (pos 1)
 
-abbrev pub minusTwo : Float
-minusTwo = fin true 1 (pos 1)
-
 unfoldable pub capped : Float → Float
 capped x = cond (le x two) x two
 
-unfoldable pub raised : Float → Float
-raised x = cond (le minusTwo x) x minusTwo
-
 abbrev pub CappedSays : Float → Float → Type 0
 CappedSays x r = r ≡ capped x
-
-abbrev pub RaisedSays : Float → Float → Type 0
-RaisedSays x r = r ≡ raised x
 
 -- up to the pattern of 1.0 it shows that the number before was no larger, and that x is within 0..1
 pub record LargerPatternSays (top : ℕ) (x : Float) (r : ℕ) : Type 0 where

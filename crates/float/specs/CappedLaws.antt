@@ -1,4 +1,4 @@
--- Laws: a pattern up to that of 1.0 is that of a number within 0..1; what is capped or raised is a number, and is left alone where it is within; their difference is a number.
+-- Laws: a pattern up to that of 1.0 is that of a number within 0..1; what is capped is a number, and is left alone where it is within; sums and differences that are numbers.
 use mathlib.Core.Path.{_≡_, refl, sym, ap, _∙_, subst}
 use mathlib.Core.Bool.{Bool, true, false, not, _&&_, cond, Bool·beq}
 use mathlib.Core.List.{List}
@@ -19,13 +19,10 @@ use Rattle.laws.specs.Bools.{true-is}
 use Rattle.laws.specs.EveryLaws.{every-step}
 use Rattle.float.specs.Numbers.{round-no-nan}
 use Rattle.float.specs.OrderLaws.{le-numbers}
-use Rattle.float.specs.Capped.{two, minusTwo, capped, raised, CappedSays, RaisedSays, LargerPatternSays}
+use Rattle.float.specs.Capped.{two, capped, CappedSays, LargerPatternSays}
 
 pub CappedSays-unique : (x r s : Float) → CappedSays x r → CappedSays x s → r ≡ s
 CappedSays-unique x r s p q = p ∙ sym q
-
-pub RaisedSays-unique : (x r s : Float) → RaisedSays x r → RaisedSays x s → r ≡ s
-RaisedSays-unique x r s p q = p ∙ sym q
 
 pub LargerPatternSays-unique : (top : ℕ) (x : Float) (r s : ℕ) → LargerPatternSays top x r → LargerPatternSays top x s → r ≡ s
 LargerPatternSays-unique top x r s p q = p .larger ∙ sym (q .larger)
@@ -84,7 +81,7 @@ larger-shows top x f h = go (ltb top (toBits binary32 x)) (ltb→lt top (toBits 
     go true p q k = let l = p tt in (omega arith, within-pattern x f k)
     go false p q k = (k, within-pattern x f (le-trans (q tt) k))
 
--- ---- capped and raised
+-- ---- capped
 pick : (P : Float → Type 0) (b : Bool) (x y : Float) → (b ≡ true → P x) → P y → P (cond b x y)
 pick P true x y f g = f refl
 pick P false x y f g = g
@@ -93,25 +90,13 @@ two-number : T (number two)
 unfolding isNan
 two-number = tt
 
-minus-two-number : T (number minusTwo)
-unfolding isNan
-minus-two-number = tt
-
 pub capped-number : (x : Float) → T (number (capped x))
 unfolding capped
 capped-number x = pick (λ (v : Float). T (number v)) (le x two) x two (λ e. le-numbers x two (true-is (le x two) e) .0) two-number
 
-pub raised-number : (x : Float) → T (number (raised x))
-unfolding raised
-raised-number x = pick (λ (v : Float). T (number v)) (le minusTwo x) x minusTwo (λ e. le-numbers minusTwo x (true-is (le minusTwo x) e) .1) minus-two-number
-
 two-out : T (within two) → ⊥
 unfolding within le lt eq
 two-out h = h
-
-minus-two-out : T (within minusTwo) → ⊥
-unfolding within le lt eq
-minus-two-out h = h
 
 back : (b : Bool) (x y : Float) → (T (within y) → ⊥) → T (within (cond b x y)) → cond b x y ≡ x
 back true x y n h = refl
@@ -121,21 +106,12 @@ pub capped-back : (x : Float) → T (within (capped x)) → capped x ≡ x
 unfolding capped
 capped-back x h = back (le x two) x two two-out h
 
-pub raised-back : (x : Float) → T (within (raised x)) → raised x ≡ x
-unfolding raised
-raised-back x h = back (le minusTwo x) x minusTwo minus-two-out h
-
--- what the larger pattern shows of the float that was capped or raised
-held-shows : (x v : Float) (top r : ℕ) → (T (within v) → v ≡ x) → LargerPatternSays top v r → r ≤ 0x3F80_0000 → (top ≤ 0x3F80_0000) × T (within x) × (v ≡ x)
-held-shows x v top r f p h =
+-- what the larger pattern shows of the float that was capped
+pub capped-shows : (x v : Float) (top r : ℕ) → v ≡ capped x → LargerPatternSays top v r → r ≤ 0x3F80_0000 → (top ≤ 0x3F80_0000) × T (within x)
+capped-shows x v top r e p h =
     let s = p .shows h in
-    (s .0, subst (λ (y : Float). T (within y)) (f (s .1)) (s .1), f (s .1))
-
-pub capped-shows : (x v : Float) (top r : ℕ) → v ≡ capped x → LargerPatternSays top v r → r ≤ 0x3F80_0000 → (top ≤ 0x3F80_0000) × T (within x) × (v ≡ x)
-capped-shows x v top r e = held-shows x v top r (λ (w : T (within v)). e ∙ capped-back x (subst (λ (y : Float). T (within y)) e w))
-
-pub raised-shows : (x v : Float) (top r : ℕ) → v ≡ raised x → LargerPatternSays top v r → r ≤ 0x3F80_0000 → (top ≤ 0x3F80_0000) × T (within x) × (v ≡ x)
-raised-shows x v top r e = held-shows x v top r (λ (w : T (within v)). e ∙ raised-back x (subst (λ (y : Float). T (within y)) e w))
+    let w = subst (λ (y : Float). T (within y)) e (s .1) in
+    (s .0, subst (λ (y : Float). T (within y)) (capped-back x w) w)
 
 pub one-more : (xs : List Float) (i : ℕ) → i < length xs → T (allWithin (take i xs)) → T (within (getD xs i nan)) → T (allWithin (take (i + 1) xs))
 one-more xs i l p q =
@@ -154,47 +130,6 @@ sum-number f s a t b c =
     either (Bool·beq s t) (round f s (a + b) c) (cond (ltb a b) (round f t (b - a) c) (round f (s && ltb b a) (a - b) c))
     (round-no-nan f s (a + b) c)
     (either (ltb a b) (round f t (b - a) c) (round f (s && ltb b a) (a - b) c) (round-no-nan f t (b - a) c) (round-no-nan f (s && ltb b a) (a - b) c))
-
--- no NaN, and no infinity of the one sign
-lowish : Float → Bool
-lowish nan = false
-lowish (inf s) = s
-lowish (fin s m e) = true
-
-highish : Float → Bool
-highish nan = false
-highish (inf s) = not s
-highish (fin s m e) = true
-
-capped-low : (x : Float) → T (lowish (capped x))
-unfolding lowish capped le lt eq
-capped-low nan = tt
-capped-low (inf true) = tt
-capped-low (inf false) = tt
-capped-low (fin s m e) = pick (λ (v : Float). T (lowish v)) (le (fin s m e) two) (fin s m e) two (λ h. tt) tt
-
-raised-high : (x : Float) → T (highish (raised x))
-unfolding highish raised le lt eq
-raised-high nan = tt
-raised-high (inf true) = tt
-raised-high (inf false) = tt
-raised-high (fin s m e) = pick (λ (v : Float). T (highish v)) (le minusTwo (fin s m e)) (fin s m e) minusTwo (λ h. tt) tt
-
-apart : (f : Format) (x y : Float) → T (lowish x) → T (highish y) → T (number (sub f x y))
-unfolding lowish highish sub add neg isNan
-apart f nan y p q = absurd p
-apart f (inf false) y p q = absurd p
-apart f (inf true) nan p q = absurd q
-apart f (inf true) (inf true) p q = absurd q
-apart f (inf true) (inf false) p q = tt
-apart f (inf true) (fin t n d) p q = tt
-apart f (fin s m e) nan p q = absurd q
-apart f (fin s m e) (inf true) p q = absurd q
-apart f (fin s m e) (inf false) p q = tt
-apart f (fin s m e) (fin t n d) p q = sum-number f s _ (not t) _ _
-
-pub held-number : (f : Format) (x y : Float) → T (number (sub f (capped x) (raised y)))
-held-number f x y = apart f (capped x) (raised y) (capped-low x) (raised-high y)
 
 -- a difference that is a number is of two numbers
 pub parts-numbers : (f : Format) (x y : Float) → T (number (sub f x y)) → T (number x) × T (number y)

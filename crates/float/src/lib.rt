@@ -6,7 +6,7 @@ ghost use Prim.Native.Nat.{_+_, _-_, _^_, _<_, _≤_};
 ghost use lib.Ieee.Nearest.{closest};
 ghost use Rattle.float.specs.Narrowed.{NarrowSays, NarrowBitsSays};
 ghost use Rattle.float.specs.Within.{number, WithinSays, AllWithinSays, AllNumbersSays};
-ghost use Rattle.float.specs.Capped.{CappedSays, RaisedSays, LargerPatternSays};
+ghost use Rattle.float.specs.Capped.{CappedSays, LargerPatternSays};
 ghost use Rattle.float.specs.Clamped.{Clamp01Says, Narrow01Says};
 ghost use Rattle.float.specs.Shortened.{shortened};
 ghost use Rattle.float.specs.Patterns.{Bits32Says, Bits64Says, OfBits32Says, OfBits64Says, WidenSays, WidenNumberSays};
@@ -94,18 +94,19 @@ pub fn within(x: f32) -> bool
     (0.0 <= x) & (x <= 1.0)
 }
 
-// Every element is within 0..1. The first loop has two cheap operations for an element and no way out, so that it is vectorised;
-// only a -0.0, or an element that is not within, makes it look again.
+// Every element is within 0..1. The first loop has one test for an element and no way out, so that it is vectorised; only a -0.0, or
+// an element that is not within, makes it look again.
 pub fn all_within(xs: &[f32]) -> bool
     ensures { λ r. ⌜ AllWithinSays (now (xs .entry)) r ⌝ }
 {
-    let mut top = 0u32;
+    let mut ok = true;
     let mut i = 0;
     while i < xs.len() {
-        top = larger_pattern(top, capped(xs[i]));
+        let pattern = larger_pattern(0, capped(xs[i]));
+        ok = ok & (pattern <= 0x3f80_0000);
         i += 1;
     }
-    if top <= 0x3f80_0000 {
+    if ok {
         return true;
     }
     each_within(xs)
@@ -129,13 +130,6 @@ pub fn capped(x: f32) -> f32
     ensures { λ r. ⌜ CappedSays x r ⌝ }
 {
     if x <= 2.0 { x } else { 2.0 }
-}
-
-// At least -2, and never a NaN. What is capped less what is raised is a number, since infinities of one sign do not meet.
-pub fn raised(x: f32) -> f32
-    ensures { λ r. ⌜ RaisedSays x r ⌝ }
-{
-    if -2.0 <= x { x } else { -2.0 }
 }
 
 // The larger of `top` and x's pattern: up to that of 1.0, 3F800000, it shows that x is within 0..1.

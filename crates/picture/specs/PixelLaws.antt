@@ -1,22 +1,24 @@
 -- Laws: the steps of fill, mean and total; the difference of two values within 0..1 is a number; a filled picture, a mean; each promise has one answer.
 use mathlib.Core.Path.{_≡_, refl, sym, ap, _∙_, subst}
+use mathlib.Core.Logic.{⊎-elim}
 use mathlib.Core.Bool.{Bool, true, false, not, _&&_, _||_, cond, true≢false}
 use mathlib.Core.List.{List, [], _∷_}
 use Prim.Native.Nat.{ℕ, zero, suc, _+_, _*_, _≤_, _<_}
-use native.Mathlib.Nat.{mul-le-mul}
+use native.Mathlib.Nat.{mul-le-mul, lt-of-lt-of-le, le-of-eq}
 use native.Mathlib.Omega.{arith}
 use lib.Dec.{T, eqb}
 use lib.ListN.{length, getD, take, set, length-set}
 use lib.IntN.{pos}
-use lib.Ieee.{Float, nan, inf, fin, Format, binary32, binary64, sum, add, sub, neg, ofInt}
+use lib.Seq.{take-all, getD-take, length-take-le}
+use lib.Ieee.{Float, nan, inf, fin, Format, binary64, add, sub, neg, ofInt}
 use lib.Ieee.Fits.{and-l, and-r}
 use Rattle.laws.specs.Answer.{Answer}
-use Rattle.laws.specs.Bools.{is-true, and-both, or-left, or-right}
+use Rattle.laws.specs.Bools.{is-true, true-is, true-or-false, and-left, and-right, and-both, or-left, or-right}
 use Rattle.laws.specs.Before.{before}
 use Rattle.laws.specs.BeforeLaws.{before-none, before-more}
-use Rattle.laws.specs.EveryLaws.{every-each}
-use Rattle.laws.specs.F32.{_⊟_}
-use Rattle.laws.specs.F64.{_⊕_, _⊗_, _⊘_}
+use Rattle.laws.specs.EveryLaws.{every-each, every-step, every-take}
+use Rattle.laws.specs.F64.{_⊕_, _⊘_}
+use Rattle.laws.specs.Fit.{no-both}
 use Rattle.laws.specs.Fill.{agree-more, agree-all}
 use Rattle.laws.specs.Index.{index-mod}
 use Rattle.laws.specs.Pictures.{plain, channelOf}
@@ -24,8 +26,7 @@ use Rattle.laws.specs.PictureLaws.{length-list, list-number, list-every}
 use Rattle.float.specs.Within.{nought, number, within, allWithin}
 use Rattle.float.specs.Narrowed.{narrowed}
 use Rattle.float.specs.WithinLaws.{Says, says, within-number}
-use Rattle.float.specs.Capped.{capped, raised, LargerPatternSays}
-use Rattle.float.specs.CappedLaws.{sum-number, held-number, capped-shows, raised-shows, one-more}
+use Rattle.float.specs.CappedLaws.{sum-number}
 use Rattle.refusal.specs.Refusals.{Sized, badSize, lowest, sizeIf, lengthIf, pixelIf}
 use Rattle.refusal.specs.Lengths.{badPicture}
 use Rattle.refusal.specs.LengthLaws.{picture-length}
@@ -253,32 +254,39 @@ pixels-last w h target canvas e =
     go true false p q = at-third size lengths true 7 (omega arith) p q refl
     go false b p q = at-third size lengths true 7 (omega arith) p q refl
 
-pub held-difference : (x y u v : Float) → u ≡ capped x → v ≡ raised y → T (number (u ⊟ v))
-held-difference x y u v p q =
-    subst (λ (z : Float). T (number (z ⊟ v))) (sym p) (subst (λ (z : Float). T (number (capped x ⊟ z))) (sym q) (held-number binary32 x y))
+crossed : (a b p q : Bool) → a && b && (p && q) ≡ (a && p) && (b && q)
+crossed true true p q = refl
+crossed true false true q = refl
+crossed true false false q = refl
+crossed false b p q = refl
 
--- one number more of each picture, capped and raised: where the largest pattern is at most that of 1.0, both were within 0..1, and left alone
-pub held-step : (t c : List Float) (i top q r : ℕ) (x y d sum : Float) → i < length t → i < length c
-    → x ≡ capped (getD t i nan) → y ≡ raised (getD c i nan) → LargerPatternSays top x q → LargerPatternSays q y r → d ≡ x ⊟ y
-    → (top ≤ 0x3F80_0000 → T (allWithin (take i t)) × T (allWithin (take i c)) × (sum ≡ totalTo t c i))
-    → r ≤ 0x3F80_0000 → T (allWithin (take (i + 1) t)) × T (allWithin (take (i + 1) c)) × (sum ⊕ (d ⊗ d) ≡ totalTo t c (i + 1))
-held-step t c i top q r x y d sum l m ex ey px py ed inv h =
-    let b = raised-shows (getD c i nan) y q r ey py h in
-    let a = capped-shows (getD t i nan) x top q ex px (b .0) in
-    let p = inv (a .0) in
-    let e : d ≡ getD t i nan ⊟ getD c i nan = ed ∙ ap (λ (v : Float). v ⊟ y) (a .2) ∙ ap (λ (v : Float). getD t i nan ⊟ v) (b .2) in
-    (one-more t i l (p .0) (a .1), one-more c i m (p .1) (b .1), total-more t c i sum (d ⊗ d) (p .2) (ap (λ (v : Float). v ⊗ v) e))
+pub both-step : (t c : List Float) (k : ℕ) (ok p q : Bool) → k < length t → k < length c → ok ≡ allWithin (take k t) && allWithin (take k c)
+    → p ≡ within (getD t k nan) → q ≡ within (getD c k nan) → ok && (p && q) ≡ allWithin (take (k + 1) t) && allWithin (take (k + 1) c)
+both-step t c k ok p q h l e f g =
+    ap (λ (z : Bool). z && (p && q)) e
+    ∙ crossed (allWithin (take k t)) (allWithin (take k c)) p q
+    ∙ ap (λ (z : Bool). z && (allWithin (take k c) && q)) (every-step within t k nan (allWithin (take k t)) p h refl f)
+    ∙ ap (λ (z : Bool). allWithin (take (k + 1) t) && z) (every-step within c k nan (allWithin (take k c)) q l refl g)
 
--- both pictures are within 0..1, or one is not
-abbrev seven : Bool → ℕ
-seven b = cond b 0 7
+-- a part that is not within 0..1, and an element of one that is
+pub part-bad : (t c : List Float) (k : ℕ) → allWithin (take k t) && allWithin (take k c) ≡ false → allWithin t && allWithin c ≡ false
+part-bad t c k h =
+    ⊎-elim
+    (λ (y : allWithin t && allWithin c ≡ true).
+    no-both
+    (and-both (allWithin (take k t)) (allWithin (take k c))
+    (is-true (allWithin (take k t)) (every-take within k t (true-is (allWithin t) (and-left (allWithin t) (allWithin c) y))))
+    (is-true (allWithin (take k c)) (every-take within k c (true-is (allWithin c) (and-right (allWithin t) (allWithin c) y)))))
+    h)
+    (λ (n : allWithin t && allWithin c ≡ false). n)
+    (true-or-false (allWithin t && allWithin c))
 
-pub both-within : (t c : List Float) → T (allWithin t) → T (allWithin c) → seven (allWithin t && allWithin c) ≡ seven true
-both-within t c p q = ap seven (and-both (allWithin t) (allWithin c) (is-true (allWithin t) p) (is-true (allWithin c) q))
+pub part-all : (t c : List Float) (k : ℕ) → length t ≤ k → length c ≤ k → T (allWithin (take k t)) → T (allWithin (take k c)) → allWithin t && allWithin c ≡ true
+part-all t c k h l p q =
+    and-both (allWithin t) (allWithin c)
+    (ap allWithin (sym (take-all k t h)) ∙ is-true (allWithin (take k t)) p)
+    (ap allWithin (sym (take-all k c l)) ∙ is-true (allWithin (take k c)) q)
 
-pub first-out : (a b : Bool) → a ≡ false → seven (a && b) ≡ seven false
-first-out a b e = ap (λ (z : Bool). seven (z && b)) e
-
-pub second-out : (a b : Bool) → b ≡ false → seven (a && b) ≡ seven false
-second-out true b e = ap seven e
-second-out false b e = refl
+pub within-before : (xs : List Float) (n k : ℕ) → T (allWithin (take n xs)) → k < n → n ≤ length xs → T (within (getD xs k nan))
+within-before xs n k h l m =
+    subst (λ (x : Float). T (within x)) (getD-take n xs k nan l) (within-at (take n xs) k h (lt-of-lt-of-le l (le-of-eq (sym (length-take-le n xs m)))))

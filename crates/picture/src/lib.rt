@@ -18,7 +18,7 @@ ghost use Rattle.refusal.specs.Lengths.{badPicture};
 ghost use Rattle.cover.specs.Cover.{badPlaces};
 ghost use Rattle.picture.specs.Painting.{BlendSays};
 ghost use Rattle.picture.specs.Strokes.{brushedPart, brushedRows, RowsWithin};
-ghost use Rattle.picture.specs.Pixels.{BadColourSays, FillSays, FilledCanvasSays, fillRefusal, MeanRgbSays, meanOf, meanRefusal, sumsTo, SseTotalSays, squaredDifference, totalAnswer, totalOf, TotalAnySays, TotalWithinSays};
+ghost use Rattle.picture.specs.Pixels.{BadColourSays, FillSays, FilledCanvasSays, fillRefusal, MeanRgbSays, meanOf, meanRefusal, sumsTo, SseTotalSays, squaredDifference, totalAnswer, totalOf, totalTo, TotalAnySays, TotalWithinSays};
 use brush::Brush;
 use cover::Kind;
 use cover::reached::Rows;
@@ -205,40 +205,79 @@ fn total_refusal(w: usize, h: usize, n: usize, m: usize) -> u8
     refused(w, h, m)
 }
 
-// Then the pixels, all in one loop with no way out, so that it is vectorised: the numbers are held to such whose difference is a
-// number, and the largest pattern shows whether all were within 0..1. Only a -0.0, or a number that is not within, makes it look again.
+// Then the pixels, 32 numbers at a time: the next ones' tests are done while the additions, which may not be reordered, wait for
+// each other.
 fn total_tested(target: &[f32], canvas: &[f32]) -> Total
     requires { ⌜ length (now target) ≡ length (now canvas) ⌝ }
     ensures { λ r. ⌜ totalAnswer r ≡ answer (cond (allWithin (now (target .entry)) && allWithin (now (canvas .entry))) 0 7) (totalOf (now (target .entry)) (now (canvas .entry))) nought ⌝ }
 {
     let n = target.len();
     let mut sum = 0.0f64;
-    let mut top = 0u32;
-    for i in 0..n {
-        let t = float::capped(target[i]);
-        let c = float::raised(canvas[i]);
-        top = float::larger_pattern(float::larger_pattern(top, t), c);
-        let d = float::widen_number(t - c);
-        sum = sum + d * d;
+    let mut i = 0;
+    while i < n {
+        let e = part_end(i, n);
+        if !both_within(target, canvas, i, e) {
+            return Total::Refused(refusal::PIXEL);
+        }
+        sum = add_squares(target, canvas, i, e, sum);
+        i = e;
     }
-    if top <= 0x3f80_0000 {
-        return Total::Done(sum);
-    }
-    total_looked(target, canvas)
+    Total::Done(sum)
 }
 
-// The same in three passes.
-fn total_looked(target: &[f32], canvas: &[f32]) -> Total
-    requires { ⌜ length (now target) ≡ length (now canvas) ⌝ }
-    ensures { λ r. ⌜ totalAnswer r ≡ answer (cond (allWithin (now (target .entry)) && allWithin (now (canvas .entry))) 0 7) (totalOf (now (target .entry)) (now (canvas .entry))) nought ⌝ }
+fn part_end(i: usize, n: usize) -> usize
+    requires { ⌜ i < n ⌝ }
+    ensures { λ r. ⌜ (i < r) × (r ≤ n) ⌝ }
 {
-    if !float::all_within(target) {
-        return Total::Refused(refusal::PIXEL);
+    if n - i < 32 {
+        return n;
     }
-    if !float::all_within(canvas) {
-        return Total::Refused(refusal::PIXEL);
+    i + 32
+}
+
+// All before `from` were within 0..1. The largest pattern of a number, capped, shows whether all are; a -0.0, or a number that is not
+// within, makes it look again. The loop has no way out, so that it is vectorised.
+fn both_within(target: &[f32], canvas: &[f32], from: usize, to: usize) -> bool
+    requires { ⌜ (from ≤ to) × (to ≤ length (now target)) × (to ≤ length (now canvas)) ⌝ }
+    requires { ⌜ T (allWithin (take from (now target))) × T (allWithin (take from (now canvas))) ⌝ }
+    ensures { λ r. ⌜ r ≡ allWithin (take to (now (target .entry))) && allWithin (take to (now (canvas .entry))) ⌝ }
+{
+    let mut top = 0u32;
+    for k in from..to {
+        top = float::larger_pattern(top, float::capped(target[k]));
+        top = float::larger_pattern(top, float::capped(canvas[k]));
     }
-    Total::Done(total_within(target, canvas))
+    if top <= 0x3f80_0000 {
+        return true;
+    }
+    each_within(target, canvas, from, to)
+}
+
+// The same, one by one.
+fn each_within(target: &[f32], canvas: &[f32], from: usize, to: usize) -> bool
+    requires { ⌜ (from ≤ to) × (to ≤ length (now target)) × (to ≤ length (now canvas)) ⌝ }
+    requires { ⌜ T (allWithin (take from (now target))) × T (allWithin (take from (now canvas))) ⌝ }
+    ensures { λ r. ⌜ r ≡ allWithin (take to (now (target .entry))) && allWithin (take to (now (canvas .entry))) ⌝ }
+{
+    let mut ok = true;
+    for k in from..to {
+        ok = ok & (float::within(target[k]) & float::within(canvas[k]));
+    }
+    ok
+}
+
+// The sum goes on from that of the numbers before `from`.
+fn add_squares(target: &[f32], canvas: &[f32], from: usize, to: usize, before: f64) -> f64
+    requires { ⌜ (from ≤ to) × (to ≤ length (now target)) × (to ≤ length (now canvas)) ⌝ }
+    requires { ⌜ T (allWithin (take to (now target))) × T (allWithin (take to (now canvas))) ⌝ }
+    requires { ⌜ before ≡ totalTo (now target) (now canvas) from ⌝ }
+    ensures { λ r. ⌜ r ≡ totalTo (now (target .entry)) (now (canvas .entry)) to ⌝ }
+{
+    let mut sum = before;
+    for k in from..to {
+        sum = sum + squared(target[k], canvas[k]);
+    }
+    sum
 }
 
 // The same without the tests, for pictures within 0..1.

@@ -52,8 +52,6 @@ fn holding(b: u32) {
     show::hex(b as u64, 8);
     show::text(b": capped ");
     show::hex(float::bits32(float::capped(x)) as u64, 8);
-    show::text(b", raised ");
-    show::hex(float::bits32(float::raised(x)) as u64, 8);
     show::text(b"\n");
 }
 

@@ -1,10 +1,12 @@
--- While the largest pattern is at most that of 1.0, the elements passed are within 0..1.
-use mathlib.Core.Path.{sym, subst}
+-- While each pattern is at most that of 1.0, the elements passed are within 0..1.
+use mathlib.Core.Path.{_≡_, sym, subst}
 use Prim.Native.Nat.{_≤_, _-_}
-use lib.Dec.{T}
+use mathlib.Core.Bool.{true}
+use borrow.Author.Tests.{leb-true}
+use lib.Dec.{T, leb}
 use lib.ListN.{length, take, getD}
 use lib.Ieee.{Float, nan}
-use Rattle.laws.specs.Bools.{is-true}
+use Rattle.laws.specs.Bools.{is-true, and-left, and-right}
 use Rattle.laws.specs.Every.{every}
 use Rattle.laws.specs.EveryLaws.{every-end}
 use Rattle.float.specs.Within.{within, number}
@@ -15,10 +17,10 @@ use Rattle.float.proofs.all_within.Statement.{statement}
 use Rattle.float.proofs.all_within.Tie as tie
 
 abbrev Inv-loop : tie.InvT-loop
-Inv-loop xs top₀ i₀ top i = (i ≤ length xs) × (top ≤ 0x3F80_0000 → T (every within (take i xs)))
+Inv-loop xs ok₀ i₀ ok i = (i ≤ length xs) × (ok ≡ true → T (every within (take i xs)))
 
 abbrev μ-loop : tie.MeasureT-loop
-μ-loop xs top₀ i₀ top i = length xs - i
+μ-loop xs ok₀ i₀ ok i = length xs - i
 
 loop-holds : tie.Need-loop-holds Inv-loop μ-loop
 unfolding every
@@ -46,16 +48,17 @@ loop-again : tie.Need-loop-again Inv-loop μ-loop
 loop-again c =
     let l = c .before .before .before .before in
     let xs = l .before .before .args .xs .now in
-    let i = l .loop .i in (
+    let i = l .loop .i in
+    let test = leb (c .larger-pattern .result) 0x3F80_0000 in (
       search needs,
-      λ h. let s = capped-shows (getD xs i nan) (c .before .capped .result) (l .loop .top) (c .larger-pattern .result) (c .before .capped .ensures) (c .larger-pattern .ensures) h in
-          one-more xs i (omega arith) (l .loop .inv .1 (s .0)) (s .1),
+      λ h. one-more xs i (omega arith) (l .loop .inv .1 (and-left (l .loop .ok) test h))
+          (capped-shows (getD xs i nan) (c .before .capped .result) 0 (c .larger-pattern .result) (c .before .capped .ensures) (c .larger-pattern .ensures) (leb-true (c .larger-pattern .result) 0x3F80_0000 (and-right (l .loop .ok) test h)) .1),
     )
 
 returns : tie.Need-returns Inv-loop μ-loop
 returns c =
     let l = c .before .before .loop in
-    every-end within (c .before .before .before .before .args .xs .now) (l .i) _ (omega arith) (sym (is-true _ (l .inv .1 (omega arith))))
+    every-end within (c .before .before .before .before .args .xs .now) (l .i) _ (omega arith) (sym (is-true _ (l .inv .1 (c .if1 .taken))))
 
 each-within-requires : tie.Need-each-within-requires Inv-loop μ-loop
 each-within-requires c κs = search needs
