@@ -1,16 +1,16 @@
 -- Laws: the steps of fill, mean and total; the difference of two values within 0..1 is a number; a filled picture, a mean; each promise has one answer.
 use mathlib.Core.Path.{_≡_, refl, sym, ap, _∙_, subst}
 use mathlib.Core.Logic.{⊎-elim}
-use mathlib.Core.Bool.{Bool, true, false, not, _&&_, _||_, cond, Bool·beq, true≢false}
+use mathlib.Core.Bool.{Bool, true, false, not, _&&_, _||_, cond, true≢false}
 use mathlib.Core.List.{List, [], _∷_}
-use Prim.Native.Nat.{ℕ, zero, suc, _+_, _-_, _*_, _≤_, _<_}
+use Prim.Native.Nat.{ℕ, zero, suc, _+_, _*_, _≤_, _<_}
 use native.Mathlib.Nat.{mul-le-mul, lt-of-lt-of-le, le-of-eq}
 use native.Mathlib.Omega.{arith}
-use lib.Dec.{T, ltb, eqb}
+use lib.Dec.{T, eqb}
 use lib.ListN.{length, getD, take, set, length-set}
 use lib.IntN.{pos}
 use lib.Seq.{take-all, getD-take, length-take-le}
-use lib.Ieee.{Float, nan, inf, fin, Format, binary64, round, sum, add, sub, neg, ofInt}
+use lib.Ieee.{Float, nan, inf, fin, Format, binary64, add, sub, neg, ofInt}
 use lib.Ieee.Fits.{and-l, and-r}
 use Rattle.laws.specs.Answer.{Answer}
 use Rattle.laws.specs.Bools.{is-true, true-is, true-or-false, and-left, and-right, and-both, or-left, or-right}
@@ -26,18 +26,19 @@ use Rattle.laws.specs.PictureLaws.{length-list, list-number, list-every}
 use Rattle.float.specs.Within.{nought, number, within, allWithin}
 use Rattle.float.specs.Narrowed.{narrowed}
 use Rattle.float.specs.WithinLaws.{Says, says, within-number}
-use Rattle.float.specs.Numbers.{round-no-nan}
+use Rattle.float.specs.CappedLaws.{sum-number}
 use Rattle.refusal.specs.Refusals.{Sized, badSize, lowest, sizeIf, lengthIf, pixelIf}
 use Rattle.refusal.specs.Lengths.{badPicture}
 use Rattle.refusal.specs.LengthLaws.{picture-length}
 use Rattle.refusal.specs.RefusalLaws.{sized}
 use Rattle.refusal.specs.ThreeTests.{passed, two-passed, at-third, at-none}
 use Rattle.picture.specs.declared.Colour.{Colour}
+use Rattle.picture.specs.declared.Sums.{Sums}
 use Rattle.picture.specs.declared.Mean.{Mean}
 use Rattle.picture.specs.declared.Mean.the-variants as mean
 use Rattle.picture.specs.declared.Total.{Total}
 use Rattle.picture.specs.declared.Total.the-variants as total
-use Rattle.picture.specs.Pixels.{badColour, BadColourSays, filled, fillRefusal, FillSays, FilledCanvasSays, channelSum, channelMean, meanOf, meanRefusal, meanAnswer, MeanRgbSays, squaredDifference, totalOf, totalTo, totalRefusal, totalAnswer, SseTotalSays, TotalAnySays, TotalWithinSays}
+use Rattle.picture.specs.Pixels.{badColour, BadColourSays, filled, fillRefusal, FillSays, FilledCanvasSays, channelSum, sumsTo, channelMean, meanOf, meanRefusal, meanAnswer, MeanRgbSays, squaredDifference, totalOf, totalTo, totalRefusal, totalAnswer, SseTotalSays, TotalAnySays, TotalWithinSays}
 
 -- ---- each promise has one answer
 pub BadColourSays-unique : (red green blue : Float) (r s : Bool) → BadColourSays red green blue r → BadColourSays red green blue s → r ≡ s
@@ -143,12 +144,32 @@ sum-more target ch i j s v e p q =
     ∙ ap (λ (t : Float). before nought _⊕_ (λ k. getD target (k * 3 + ch) nan) i ⊕ t) (q ∙ ap (λ (k : ℕ). getD target k nan) e)
     ∙ before-more nought _⊕_ (λ k. getD target (k * 3 + ch) nan) i
 
-pub mean-all : (w h : ℕ) (target : List Float) (n : ℕ) (red green blue r g b : Float) → n ≡ h * w
-    → red ≡ channelSum target 0 n → green ≡ channelSum target 1 n → blue ≡ channelSum target 2 n
-    → r ≡ narrowed (red ⊘ ofInt binary64 (pos n)) → g ≡ narrowed (green ⊘ ofInt binary64 (pos n)) → b ≡ narrowed (blue ⊘ ofInt binary64 (pos n))
+abbrev sums-of : Float → Float → Float → Sums
+sums-of r g b = record { red = r; green = g; blue = b }
+
+sums-same : (r g b x y z : Float) → r ≡ x → g ≡ y → b ≡ z → sums-of r g b ≡ sums-of x y z
+sums-same r g b x y z p q u = ap (λ (k : Float). sums-of k g b) p ∙ ap (λ (k : Float). sums-of x k b) q ∙ ap (λ (k : Float). sums-of x y k) u
+
+pub sums-none : (target : List Float) → sums-of nought nought nought ≡ sumsTo target 0
+unfolding sumsTo
+sums-none target = sums-same nought nought nought _ _ _ (sum-none target 0) (sum-none target 1) (sum-none target 2)
+
+-- pixel i, whose three numbers were added
+pub sums-more : (target : List Float) (i : ℕ) (s : Sums) (r g b : Float) → s ≡ sumsTo target i
+    → r ≡ getD target (i * 3) nan → g ≡ getD target (i * 3 + 1) nan → b ≡ getD target (i * 3 + 2) nan
+    → sums-of (s .red ⊕ r) (s .green ⊕ g) (s .blue ⊕ b) ≡ sumsTo target (i + 1)
+unfolding sumsTo
+sums-more target i s r g b p q u v =
+    sums-same (s .red ⊕ r) (s .green ⊕ g) (s .blue ⊕ b) _ _ _
+    (sum-more target 0 i (i * 3) (s .red) r (omega arith) (ap (λ (z : Sums). z .red) p) q)
+    (sum-more target 1 i (i * 3 + 1) (s .green) g refl (ap (λ (z : Sums). z .green) p) u)
+    (sum-more target 2 i (i * 3 + 2) (s .blue) b refl (ap (λ (z : Sums). z .blue) p) v)
+
+pub mean-all : (w h : ℕ) (target : List Float) (n : ℕ) (s : Sums) (r g b : Float) → n ≡ h * w → s ≡ sumsTo target n
+    → r ≡ narrowed (s .red ⊘ ofInt binary64 (pos n)) → g ≡ narrowed (s .green ⊘ ofInt binary64 (pos n)) → b ≡ narrowed (s .blue ⊘ ofInt binary64 (pos n))
     → _≡_ {A = Colour} (record { red = r; green = g; blue = b }) (meanOf w h target)
-unfolding meanOf channelMean
-mean-all w h target n red green blue r g b e p q s u v z = simp (u, v, z, p, q, s, e)
+unfolding meanOf channelMean sumsTo
+mean-all w h target n s r g b e p u v z = simp (u, v, z, p, e)
 
 pub few-pixels : (w h : ℕ) → Sized w h → h * w ≤ 65536
 few-pixels w h s = mul-le-mul (s .h-high) (s .w-high)
@@ -170,17 +191,6 @@ unfolding totalTo totalOf
 total-all target canvas n s e p = p ∙ ap (totalTo target canvas) e
 
 -- ---- the difference of two values within 0..1 is a number
-either : (k : Bool) (x y : Float) → T (number x) → T (number y) → T (number (cond k x y))
-either true x y p q = p
-either false x y p q = q
-
-sum-number : (f : Format) (s : Bool) (a : ℕ) (t : Bool) (b c : ℕ) → T (number (sum f s a t b c))
-unfolding sum
-sum-number f s a t b c =
-    either (Bool·beq s t) (round f s (a + b) c) (cond (ltb a b) (round f t (b - a) c) (round f (s && ltb b a) (a - b) c))
-    (round-no-nan f s (a + b) c)
-    (either (ltb a b) (round f t (b - a) c) (round f (s && ltb b a) (a - b) c) (round-no-nan f t (b - a) c) (round-no-nan f (s && ltb b a) (a - b) c))
-
 pub difference-number : (f : Format) (x y : Float) → T (within x) → T (within y) → T (number (sub f x y))
 unfolding sub add neg
 difference-number f x y h k = go x y (says x h) (says y k)

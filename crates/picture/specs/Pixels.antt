@@ -17,6 +17,7 @@ use Rattle.float.specs.Within.{nought, within, allWithin}
 use Rattle.refusal.specs.Refusals.{lowest, sizeIf, lengthIf, colourIf, pixelIf, badSize}
 use Rattle.refusal.specs.Lengths.{badPicture}
 use Rattle.picture.specs.declared.Colour.{Colour}
+use Rattle.picture.specs.declared.Sums.{Sums}
 use Rattle.picture.specs.declared.Mean.{Mean}
 use Rattle.picture.specs.declared.Mean.the-variants as mean
 use Rattle.picture.specs.declared.Total.{Total}
@@ -48,6 +49,14 @@ pub record FilledCanvasSays (w h : ℕ) (red green blue : Float) (old : List Flo
 -- ---- mean: of each channel the sum over the pixels, in their order, in f64; divided by their count, narrowed
 unfoldable pub channelSum : List Float → ℕ → ℕ → Float
 channelSum target ch n = before nought _⊕_ (λ i. getD target (i * 3 + ch) nan) n
+
+-- the three channels' sums over the first i pixels
+unfoldable pub sumsTo : List Float → ℕ → Sums
+sumsTo target i = record {
+  red = channelSum target 0 i;
+  green = channelSum target 1 i;
+  blue = channelSum target 2 i;
+}
 
 unfoldable pub channelMean : List Float → ℕ → ℕ → Float
 channelMean target ch n = narrowed (channelSum target ch n ⊘ ofInt binary64 (pos n))

@@ -18,7 +18,7 @@ ghost use Rattle.refusal.specs.Lengths.{badPicture};
 ghost use Rattle.cover.specs.Cover.{badPlaces};
 ghost use Rattle.picture.specs.Painting.{BlendSays};
 ghost use Rattle.picture.specs.Strokes.{brushedPart, brushedRows, RowsWithin};
-ghost use Rattle.picture.specs.Pixels.{BadColourSays, FillSays, FilledCanvasSays, fillRefusal, MeanRgbSays, meanOf, meanRefusal, SseTotalSays, squaredDifference, totalAnswer, totalOf, totalTo, TotalAnySays, TotalWithinSays};
+ghost use Rattle.picture.specs.Pixels.{BadColourSays, FillSays, FilledCanvasSays, fillRefusal, MeanRgbSays, meanOf, meanRefusal, sumsTo, SseTotalSays, squaredDifference, totalAnswer, totalOf, totalTo, TotalAnySays, TotalWithinSays};
 use brush::Brush;
 use cover::Kind;
 use cover::reached::Rows;
@@ -29,6 +29,13 @@ pub struct Colour {
     pub red: f32,
     pub green: f32,
     pub blue: f32,
+}
+
+// The three channels' sums.
+struct Sums {
+    red: f64,
+    green: f64,
+    blue: f64,
 }
 
 pub enum Mean {
@@ -127,25 +134,43 @@ fn mean_refusal(w: usize, h: usize, target: &[f32]) -> u8
     0
 }
 
+// Two pixels a turn: in a loop with one the compiler would gather a channel's numbers from four pixels, which costs more than it saves.
 fn mean_of(w: usize, h: usize, target: &[f32]) -> Colour
     requires { ⌜ Sized w h × (length (now target) ≡ h * w * 3) ⌝ }
     requires { ⌜ T (allWithin (now target)) ⌝ }
     ensures { λ r. ⌜ r ≡ meanOf w h (now (target .entry)) ⌝ }
 {
     let n = h * w;
-    let mut red = 0.0f64;
-    let mut green = 0.0f64;
-    let mut blue = 0.0f64;
-    for i in 0..n {
-        red = red + float::widen_number(target[i * 3]);
-        green = green + float::widen_number(target[i * 3 + 1]);
-        blue = blue + float::widen_number(target[i * 3 + 2]);
+    let mut sums = Sums {
+        red: 0.0,
+        green: 0.0,
+        blue: 0.0,
+    };
+    let mut i = 0;
+    while i + 1 < n {
+        sums = add_pixel(sums, target, i);
+        sums = add_pixel(sums, target, i + 1);
+        i += 2;
+    }
+    if i < n {
+        sums = add_pixel(sums, target, i);
     }
     Colour {
-        red: share(red, n),
-        green: share(green, n),
-        blue: share(blue, n),
+        red: share(sums.red, n),
+        green: share(sums.green, n),
+        blue: share(sums.blue, n),
     }
+}
+
+// The sums of the pixels before i, and pixel i.
+fn add_pixel(sums: Sums, target: &[f32], i: usize) -> Sums
+    requires { ⌜ (i * 3 + 3 ≤ length (now target)) × T (allWithin (now target)) ⌝ }
+    ensures { λ r. ⌜ (sums ≡ sumsTo (now (target .entry)) i → r ≡ sumsTo (now (target .entry)) (i + 1)) ⌝ }
+{
+    let red = sums.red + float::widen_number(target[i * 3]);
+    let green = sums.green + float::widen_number(target[i * 3 + 1]);
+    let blue = sums.blue + float::widen_number(target[i * 3 + 2]);
+    Sums { red, green, blue }
 }
 
 fn share(sum: f64, n: usize) -> f32
@@ -210,8 +235,26 @@ fn part_end(i: usize, n: usize) -> usize
     i + 32
 }
 
-// All before `from` were within 0..1. The loop has no way out, so that it is vectorised.
+// All before `from` were within 0..1. The largest pattern of a number, capped, shows whether all are; a -0.0, or a number that is not
+// within, makes it look again. The loop has no way out, so that it is vectorised.
 fn both_within(target: &[f32], canvas: &[f32], from: usize, to: usize) -> bool
+    requires { ⌜ (from ≤ to) × (to ≤ length (now target)) × (to ≤ length (now canvas)) ⌝ }
+    requires { ⌜ T (allWithin (take from (now target))) × T (allWithin (take from (now canvas))) ⌝ }
+    ensures { λ r. ⌜ r ≡ allWithin (take to (now (target .entry))) && allWithin (take to (now (canvas .entry))) ⌝ }
+{
+    let mut top = 0u32;
+    for k in from..to {
+        top = float::larger_pattern(top, float::capped(target[k]));
+        top = float::larger_pattern(top, float::capped(canvas[k]));
+    }
+    if top <= 0x3f80_0000 {
+        return true;
+    }
+    each_within(target, canvas, from, to)
+}
+
+// The same, one by one.
+fn each_within(target: &[f32], canvas: &[f32], from: usize, to: usize) -> bool
     requires { ⌜ (from ≤ to) × (to ≤ length (now target)) × (to ≤ length (now canvas)) ⌝ }
     requires { ⌜ T (allWithin (take from (now target))) × T (allWithin (take from (now canvas))) ⌝ }
     ensures { λ r. ⌜ r ≡ allWithin (take to (now (target .entry))) && allWithin (take to (now (canvas .entry))) ⌝ }

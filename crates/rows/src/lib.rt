@@ -11,12 +11,19 @@ ghost use Rattle.rows.specs.Places.{RowSizes, pixelAt, targetSix, canvas
 use sums::ShapeSums;
 
 // The sums of the pixels before each place: all fifteen, or the nine that read the canvas.
-// Rows without a NaN take the quicker step.
-pub fn rebuild_row(row: &mut [f64], target: &[f32], canvas: &[f32], w: usize, whole: bool)
+// Rows that are known to have no NaN take the quicker step.
+pub fn rebuild_row(
+    row: &mut [f64],
+    target: &[f32],
+    canvas: &[f32],
+    w: usize,
+    whole: bool,
+    numbers: bool,
+)
     requires { ⌜ RowSizes w (now target) (now canvas) (now row) ⌝ }
+    requires { ⌜ (numbers ≡ true → T (allNumbers (now target)) × T (allNumbers (now canvas))) ⌝ }
     ensures { λ _. ⌜ RebuildRowSays whole w (now (target .entry)) (now (canvas .entry)) (now (row .entry)) (now (row .exit)) ⌝ }
 {
-    let numbers = both_numbers(target, canvas);
     let mut s = ShapeSums::new();
     put(&mut row[0..15], s, whole);
     for x in 0..w {
@@ -24,15 +31,6 @@ pub fn rebuild_row(row: &mut [f64], target: &[f32], canvas: &[f32], w: usize, wh
         let a = (x + 1) * 15;
         put(&mut row[a..a + 15], s, whole);
     }
-}
-
-fn both_numbers(target: &[f32], canvas: &[f32]) -> bool
-    ensures { λ r. ⌜ (r ≡ true → T (allNumbers (now (target .entry))) × T (allNumbers (now (canvas .entry)))) ⌝ }
-{
-    if float::all_numbers(target) {
-        return float::all_numbers(canvas);
-    }
-    false
 }
 
 // Pixel x more.

@@ -47,6 +47,14 @@ fn lists(xs: &[f32]) {
     show::text(b"\n");
 }
 
+fn holding(b: u32) {
+    let x = float::of_bits32(b);
+    show::hex(b as u64, 8);
+    show::text(b": capped ");
+    show::hex(float::bits32(float::capped(x)) as u64, 8);
+    show::text(b"\n");
+}
+
 fn narrowings() {
     // document 01: 1 + 2^-24, 1 + 3·2^-24, 2^-150, 2^128 - 2^103
     narrowing(0x3ff0_0000_1000_0000);
@@ -104,9 +112,19 @@ fn all() {
     lists(&[0.0, -0.0, 0.5, 1.0]);
     lists(&[2.0]);
     lists(&[2.0, 0.0]);
+    lists(&[float::of_bits32(0x3f80_0001)]);
     lists(&[infinity]);
     lists(&[0.0, nan]);
     lists(&[0.0, 0.0, 0.0, 0.0, 0.0, 0.0, 0.0, 0.0, nan, 0.0]);
+}
+
+fn held() {
+    // 1.5, -3, infinities, a NaN
+    holding(0x3fc0_0000);
+    holding(0xc040_0000);
+    holding(0x7f80_0000);
+    holding(0xff80_0000);
+    holding(0x7fc0_0000);
 }
 
 fn main() {
@@ -114,4 +132,5 @@ fn main() {
     singles();
     clamps();
     all();
+    held();
 }

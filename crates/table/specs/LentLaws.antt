@@ -1,15 +1,23 @@
 -- Laws: row y of the pictures and of the table, lent on to a row routine: what it asks, and what comes back.
-use mathlib.Core.Path.{_≡_, sym, ap, _∙_}
-use mathlib.Core.Bool.{Bool}
+use mathlib.Core.Path.{_≡_, sym, ap, _∙_, subst}
+use mathlib.Core.Bool.{Bool, true, false, not, _&&_}
 use mathlib.Core.List.{List}
-use Prim.Native.Nat.{ℕ, _+_, _-_, _*_, _≤_}
-use lib.ListN.{length, take, drop}
-use lib.Ieee.{Float}
+use Prim.Native.Nat.{ℕ, _+_, _-_, _*_, _≤_, _<_}
+use native.Mathlib.Nat.{mul-le-mul-right, add-mul}
+use native.Mathlib.Omega.{arith}
+use lib.Dec.{T, leb, leb→le, nleb→lt}
+use lib.ListN.{length, take, drop, getD}
+use lib.Ieee.{Float, nan, binary32, eq, sub}
 use borrow.Rule.Slice.PartMut.{putMid}
 use Rattle.laws.specs.Rows.{cut, putRow}
-use Rattle.laws.specs.RowLaws.{part-cut, length-part, put-row}
+use Rattle.laws.specs.Bools.{true-is, and-left, and-right}
+use Rattle.laws.specs.EveryLaws.{every-of}
+use Rattle.laws.specs.RowLaws.{part-cut, length-part, length-cut, getD-cut, put-row}
+use Rattle.float.specs.Within.{number, allNumbers}
+use Rattle.float.specs.Numbers.{itself-number}
+use Rattle.float.specs.CappedLaws.{parts-numbers}
 use Rattle.rows.specs.Places.{RowSizes, rowOf}
-use Rattle.table.specs.Fills.{rowAt}
+use Rattle.table.specs.Fills.{rowAt, NumbersBetween}
 
 module _ (w y : ℕ) (target canvas table tr cr : List Float) (a : tr ≡ cut (w * 3) y target) (b : cr ≡ cut (w * 3) y canvas) where
   -- the table's part as it is lent
@@ -33,3 +41,31 @@ module _ (w y : ℕ) (target canvas table tr cr : List Float) (a : tr ≡ cut (w
       put-row ((w + 1) * 15) y last table
       ∙ ap (λ r. putRow ((w + 1) * 15) y r table)
       (e ∙ ap (λ r. rowOf whole w r cr part) a ∙ ap (λ r. rowOf whole w (cut (w * 3) y target) r part) b ∙ ap (rowOf whole w (cut (w * 3) y target) (cut (w * 3) y canvas)) (part-cut ((w + 1) * 15) y table))
+
+-- one number more of both pictures: their difference is no NaN
+pub numbers-more : (target canvas : List Float) (from k : ℕ) (ok : Bool) (d : Float) → d ≡ sub binary32 (getD target k nan) (getD canvas k nan)
+    → (ok ≡ true → NumbersBetween from k target canvas) → ok && eq d d ≡ true → NumbersBetween from (k + 1) target canvas
+numbers-more target canvas from k ok d e inv h i l m = go (leb k i) (leb→le k i) (nleb→lt k i)
+  where
+    here : T (number (getD target k nan)) × T (number (getD canvas k nan))
+    here =
+        parts-numbers binary32 (getD target k nan) (getD canvas k nan)
+        (subst (λ (v : Float). T (number v)) e (true-is (number d) (sym (itself-number d) ∙ and-right ok (eq d d) h)))
+
+    go : (b : Bool) → (T b → k ≤ i) → (T (not b) → i < k) → T (number (getD target i nan)) × T (number (getD canvas i nan))
+    go true f g = let p = f tt in let z : k ≡ i = omega arith in subst (λ (j : ℕ). T (number (getD target j nan)) × T (number (getD canvas j nan))) z here
+    go false f g = inv (and-left ok (eq d d) h) i l (g tt)
+
+-- row y of rows lo to hi
+module _ (n y lo hi h : ℕ) (target canvas : List Float) (a : lo ≤ y) (b : y < hi) (c : hi ≤ h) (t : length target ≡ h * n) (k : length canvas ≡ h * n) (p : NumbersBetween (lo * n) (hi * n) target canvas) where
+  inside : (i : ℕ) → i < n → T (number (getD target (y * n + i) nan)) × T (number (getD canvas (y * n + i) nan))
+  inside i l =
+      let u : lo * n ≤ y * n = mul-le-mul-right n a in
+      let v : (y + 1) * n ≤ hi * n = mul-le-mul-right n (omega arith) in
+      p (y * n + i) (omega arith) (omega (arith, add-mul y 1 n))
+
+  pub row-numbers : T (allNumbers (cut n y target)) × T (allNumbers (cut n y canvas))
+  row-numbers = (
+    every-of number (cut n y target) nan (λ i l. let m : i < n = rw (length-cut n y h target t (omega arith)) at l in subst (λ (v : Float). T (number v)) (sym (getD-cut n y i target nan m)) (inside i m .0)),
+    every-of number (cut n y canvas) nan (λ i l. let m : i < n = rw (length-cut n y h canvas k (omega arith)) at l in subst (λ (v : Float). T (number v)) (sym (getD-cut n y i canvas nan m)) (inside i m .1)),
+  )

@@ -1,6 +1,6 @@
 // The table of prefix sums: for each row of a picture w + 1 places of fifteen sums, and what reads them.
 ghost use mathlib.Core.Path.{_≡_};
-ghost use mathlib.Core.Bool.{_||_};
+ghost use mathlib.Core.Bool.{true, _||_};
 ghost use mathlib.Core.List.{[], _∷_};
 ghost use Prim.Native.Nat.{ℕ, _+_, _-_, _*_, _≤_, _<_, _^_};
 ghost use lib.Dec.{leb, ltb};
@@ -12,7 +12,7 @@ ghost use Rattle.laws.specs.Rows.{cut, putRow, putRows};
 ghost use Rattle.refusal.specs.Refusals.{lowest, sizeIf, lengthIf, badSize};
 ghost use Rattle.sums.specs.Sums.{three};
 ghost use Rattle.table.specs.Table.{badLengths, BuildSays, UpdateCanvasRowsSays, AddSpanSays, ReadPlaceSays};
-ghost use Rattle.table.specs.Fills.{Sizes, rowAt};
+ghost use Rattle.table.specs.Fills.{Sizes, NumbersBetween, RowNumbers, rowAt};
 use sums::ShapeSums;
 
 // The series' places among the fifteen.
@@ -167,14 +167,38 @@ fn rebuild_rows(
     requires { ⌜ Sizes w h (now target) (now canvas) (now table) × (lo ≤ hi) × (hi ≤ h) ⌝ }
     ensures { λ _. ⌜ now (table .exit) ≡ putRows ((w + 1) * 15) (rowAt whole w (now (target .entry)) (now (canvas .entry))) lo hi (now (table .entry)) ⌝ }
 {
+    let numbers = all_numbers(target, canvas, lo * (w * 3), hi * (w * 3));
     for y in lo..hi {
-        rebuild_at(target, canvas, w, table, y, whole);
+        rebuild_at(target, canvas, w, table, y, whole, numbers);
     }
 }
 
+// Numbers from..to of both pictures have no NaN: then neither has a difference, one test for two. Two infinities of one sign make it
+// false too, and then the slower step is taken. The loop has no way out, so that it is vectorised.
+fn all_numbers(target: &[f32], canvas: &[f32], from: usize, to: usize) -> bool
+    requires { ⌜ (from ≤ to) × (to ≤ length (now target)) × (to ≤ length (now canvas)) ⌝ }
+    ensures { λ r. ⌜ (r ≡ true → NumbersBetween from to (now (target .entry)) (now (canvas .entry))) ⌝ }
+{
+    let mut ok = true;
+    for k in from..to {
+        let d = target[k] - canvas[k];
+        ok = ok & (d == d);
+    }
+    ok
+}
+
 // Row y's part of the table is lent on, and row y of each picture.
-fn rebuild_at(target: &[f32], canvas: &[f32], w: usize, table: &mut [f64], y: usize, whole: bool)
+fn rebuild_at(
+    target: &[f32],
+    canvas: &[f32],
+    w: usize,
+    table: &mut [f64],
+    y: usize,
+    whole: bool,
+    numbers: bool,
+)
     requires { ⌜ (w ≤ 256) × (y * (w * 3) + w * 3 ≤ length (now target)) × (y * (w * 3) + w * 3 ≤ length (now canvas)) × (y * ((w + 1) * 15) + (w + 1) * 15 ≤ length (now table)) ⌝ }
+    requires { ⌜ RowNumbers numbers (w * 3) y (now target) (now canvas) ⌝ }
     ensures { λ _. ⌜ now (table .exit) ≡ putRow ((w + 1) * 15) y (rowAt whole w (now (target .entry)) (now (canvas .entry)) y (cut ((w + 1) * 15) y (now (table .entry)))) (now (table .entry)) ⌝ }
 {
     let n = (w + 1) * 15;
@@ -185,6 +209,7 @@ fn rebuild_at(target: &[f32], canvas: &[f32], w: usize, table: &mut [f64], y: us
         row_of(canvas, y, w * 3),
         w,
         whole,
+        numbers,
     );
 }
 

@@ -24,9 +24,6 @@ Inv-loop row₀ target canvas w whole numbers s₀ x₀ row s x =
 abbrev μ-loop : tie.MeasureT-loop
 μ-loop row₀ target canvas w whole numbers s₀ x₀ row s x = w - x
 
-both-numbers-requires : tie.Need-both-numbers-requires Inv-loop μ-loop
-both-numbers-requires c κs = search needs
-
 new-requires : tie.Need-new-requires Inv-loop μ-loop
 new-requires c κs = search needs
 
@@ -40,34 +37,34 @@ part-put-end : tie.Need-part-put-end Inv-loop μ-loop
 part-put-end c = search needs
 
 put-requires : tie.Need-put-requires Inv-loop μ-loop
-put-requires c κs = length-take-le 15 (c .before .before .before .before .before .before .args .row .now) (omega (arith, c .before .before .before .before .before .before .pre .places))
+put-requires c κs = length-take-le 15 (c .before .before .before .before .before .args .row .now) (omega (arith, c .before .before .before .before .before .pre .0 .places))
 
 -- place 0 is written before the loop
 module _ (c : tie.After-slice-known2 Inv-loop μ-loop) where
   first :
-      putMid 0 15 (c .before .before .before .before .before .before .before .before .before .args .row .now) (c .before .before .put .last .0)
-      ≡ putRows 15 (placeAt (c .before .before .before .before .before .before .before .before .before .args .whole) (c .before .before .before .before .before .before .before .before .before .args .target .now) (c .before .before .before .before .before .before .before .before .before .args .canvas .now)) 0 1 (c .before .before .before .before .before .before .before .before .before .args .row .now)
+      putMid 0 15 (c .before .before .before .before .before .before .before .before .args .row .now) (c .before .before .put .last .0)
+      ≡ putRows 15 (placeAt (c .before .before .before .before .before .before .before .before .args .whole) (c .before .before .before .before .before .before .before .before .args .target .now) (c .before .before .before .before .before .before .before .before .args .canvas .now)) 0 1 (c .before .before .before .before .before .before .before .before .args .row .now)
   unfolding placeAt
   first =
-      let a = c .before .before .before .before .before .before .before .before .before .args in
+      let a = c .before .before .before .before .before .before .before .before .args in
       rows-step 15 (placeAt (a .whole) (a .target .now) (a .canvas .now)) 0 0 (a .row .now) (a .row .now) (c .before .before .put .last .0) (omega arith)
       (sym (putRows-none 15 _ 0 (a .row .now)))
       (c .before .before .put .ensures ∙ ap (λ (s : ShapeSums). cond (a .whole) (targetSix s) (take 6 (take 15 (a .row .now))) ++ canvasNine s) (c .before .before .before .before .new .ensures ∙ sums-none (a .target .now) (a .canvas .now)))
 
-  first-length : length (putMid 0 15 (c .before .before .before .before .before .before .before .before .before .args .row .now) (c .before .before .put .last .0)) ≡ (c .before .before .before .before .before .before .before .before .before .args .w + 1) * 15
+  first-length : length (putMid 0 15 (c .before .before .before .before .before .before .before .before .args .row .now) (c .before .before .put .last .0)) ≡ (c .before .before .before .before .before .before .before .before .args .w + 1) * 15
   first-length =
-      let a = c .before .before .before .before .before .before .before .before .before .args in
-      ap length first ∙ length-putRows 15 (a .w + 1) (placeAt (a .whole) (a .target .now) (a .canvas .now)) (keeps-place (a .target .now) (a .canvas .now) (a .whole) (a .w)) 0 1 (a .row .now) (omega arith) (omega arith) (c .before .before .before .before .before .before .before .before .before .pre .places)
+      let a = c .before .before .before .before .before .before .before .before .args in
+      ap length first ∙ length-putRows 15 (a .w + 1) (placeAt (a .whole) (a .target .now) (a .canvas .now)) (keeps-place (a .target .now) (a .canvas .now) (a .whole) (a .w)) 0 1 (a .row .now) (omega arith) (omega arith) (c .before .before .before .before .before .before .before .before .pre .0 .places)
 
 loop-holds : tie.Need-loop-holds Inv-loop μ-loop
 loop-holds c = (omega arith, c .before .before .before .before .new .ensures ∙ sums-none _ _, sym (putRows-none 15 _ 1 _), first-length c)
 
 step-requires : tie.Need-step-requires Inv-loop μ-loop
 step-requires c κs =
-    let st = c .before .before .before .before .before .before .before .before .before .before .before in
+    let st = c .before .before .before .before .before .before .before .before .before .before in
     let l = c .before .loop in
     let counted = ap (λ (s : ShapeSums). s .count) (l .inv .1) ∙ sums-count (st .args .target .now) (st .args .canvas .now) (l .x) in
-    ((omega (arith, counted), omega (arith, st .pre .targets), omega (arith, st .pre .canvases)), c .before .before .before .before .before .before .before .both-numbers .ensures)
+    ((omega (arith, counted), omega (arith, st .pre .0 .targets), omega (arith, st .pre .0 .canvases)), st .pre .1)
 
 add-a : tie.Need-add-a Inv-loop μ-loop
 add-a c = search needs
@@ -94,7 +91,7 @@ put-requires-2 : tie.Need-put-requires-2 Inv-loop μ-loop
 put-requires-2 c κs = length-part ((c .before .before .before .loop .x + 1) * 15) 15 (c .before .before .before .loop .row) (omega arith)
 
 add-x : tie.Need-add-x Inv-loop μ-loop
-add-x c = omega (arith, c .before .before .before .before .before .before .before .before .before .before .before .before .before .before .before .before .pre .narrow)
+add-x c = omega (arith, c .before .before .before .before .before .before .before .before .before .before .before .before .before .before .before .pre .0 .narrow)
 
 loop-less : tie.Need-loop-less Inv-loop μ-loop
 loop-less c = search needs
@@ -102,7 +99,7 @@ loop-less c = search needs
 loop-again : tie.Need-loop-again Inv-loop μ-loop
 unfolding placeAt
 loop-again c =
-    let st = c .before .before .before .before .before .before .before .before .before .before .before .before .before .before .before .before in
+    let st = c .before .before .before .before .before .before .before .before .before .before .before .before .before .before .before in
     let a = st .args in
     let l = c .before .before .before .before .before .before .loop in
     let s = c .before .before .before .before .step .ensures ∙ ap (λ s. plus s (pixelAt (a .target .now) (a .canvas .now) (l .x))) (l .inv .1) ∙ sums-more (a .target .now) (a .canvas .now) (l .x) in
@@ -114,11 +111,11 @@ loop-again c =
     )
 
 same-length : tie.Need-same-length Inv-loop μ-loop
-same-length c = c .before .loop .inv .3 ∙ sym (c .before .before .before .before .before .before .before .before .before .before .before .pre .places)
+same-length c = c .before .loop .inv .3 ∙ sym (c .before .before .before .before .before .before .before .before .before .before .pre .0 .places)
 
 returns : tie.Need-returns Inv-loop μ-loop
 returns c =
-    let a = c .before .before .before .before .before .before .before .before .before .before .before .args in
+    let a = c .before .before .before .before .before .before .before .before .before .before .args in
     let l = c .before .loop in
     let e : l .x + 1 ≡ a .w + 1 = omega arith in
     (rw e at (l .inv .2))
@@ -131,7 +128,6 @@ rebuild-row-spec =
     (tie.spec
     Inv-loop
     μ-loop
-    both-numbers-requires
     new-requires
     sub-put
     part-put-start

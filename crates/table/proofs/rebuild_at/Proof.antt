@@ -1,4 +1,9 @@
 -- `rebuild_at`: row y is lent on and put back.
+use mathlib.Core.Path.{sym, subst}
+use mathlib.Core.List.{List}
+use lib.Dec.{T}
+use lib.Ieee.{Float}
+use Rattle.float.specs.Within.{allNumbers}
 use Rattle.table.specs.LentLaws.{row-sizes, row-back}
 use borrow.Author.Needs.{needs}
 use Rattle.table.proofs.rebuild_at.Statement.{statement}
@@ -44,7 +49,10 @@ rebuild-row-requires : tie.Need-rebuild-row-requires
 rebuild-row-requires c κs =
     let st = c .before .before .before .before .before .before in
     let a = st .args in
-    row-sizes (a .w) (a .y) (a .target .now) (a .canvas .now) (a .table .now) _ _ (c .before .row-of .ensures) (c .row-of2 .ensures) (st .pre .0) (st .pre .1) (st .pre .2) (st .pre .3)
+    let t = c .before .row-of .ensures in
+    let k = c .row-of2 .ensures in
+    let p = st .pre .0 in
+    (row-sizes (a .w) (a .y) (a .target .now) (a .canvas .now) (a .table .now) _ _ t k (p .0) (p .1) (p .2) (p .3), λ e. let n = st .pre .1 e in (subst (λ (l : List Float). T (allNumbers l)) (sym t) (n .0), subst (λ (l : List Float). T (allNumbers l)) (sym k) (n .1)))
 
 same-length : tie.Need-same-length
 same-length c = search needs
