@@ -382,8 +382,8 @@ pub fn fill_quad(
     requires blank { ⌜ Blank (now out) ⌝ }
     ensures { λ r. ⌜ FillQuadSays x0 y0 x1 y1 x2 y2 x3 y3 w h (now (out .exit)) ⌝ }
 {
-    let area = side(x0, y0, x1, y1, x2, y2);
-    if area == 0 {
+    let turn = side(x0, y0, x1, y1, x2, y2);
+    if turn == 0 {
         return;
     }
     let first = whole::clamp_i64(lowest(y0, y1, y2, y3) as i64, h);
@@ -397,7 +397,7 @@ pub fn fill_quad(
         y2,
         x3,
         y3,
-        sign_of(area),
+        sign_of(turn),
         w,
         first,
         past,
