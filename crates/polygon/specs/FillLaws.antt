@@ -19,6 +19,7 @@ use Rattle.whole.specs.Whole.{ClampI64Says}
 use Rattle.whole.specs.WholeLaws.{clamp-is}
 use Rattle.polygon.specs.Polygon.{at, area2, areaTest, polygonTests, polygon, corners, polygonPixel, leastOf, greatestOf, FillRunsSays}
 use Rattle.polygon.specs.Steps.{Kept, First, leftAt, rightAt, Room, Rows, Opened, Closed, Signed, RowRun}
+use Rattle.polygon.specs.OneRow.{Done}
 use Rattle.polygon.specs.Around.{row-closed}
 use Rattle.polygon.specs.RowSteps.{rows-then, runs-of-rows}
 use Rattle.polygon.specs.Box.{polygon-in-box}
@@ -90,33 +91,35 @@ module _ (xs ys : List ℤ) (same : length ys ≡ length xs) (w h : ℕ) where
   unfolding blank
   zeros z = (zero-at 512 (z * 2), zero-at 512 (z * 2 + 1))
 
-  -- the rows of the box were opened, cut by every edge and closed
-  module _ (sign : ℤ) (g : Signed xs ys sign) (first past : ℕ) (opened cut closed : List ℕ) where
-    abbrev Done : ℕ → ℕ → ℕ → ℕ → ℕ → Type 0
-    Done y a b left right = RowRun xs ys w y left right
+  -- the rows of the box are their runs, and the others are blank
+  module _ (first past : ℕ) (closed : List ℕ) where
+    pub fill-done : h ≤ 256 → ClampI64Says (leastOf ys) h first → ClampI64Says (greatestOf ys +ℤ pos 1) h past → Rows (Done xs ys w) first past blank closed → FillRunsSays xs ys w h closed
+    fill-done l d e g = runs-of-rows covers w h closed (g .room .size) (λ y k. by y k (decLe first y) (decLe past y))
+      where
+        by : (y : ℕ) → y < 256 → Dec (first ≤ y) → Dec (past ≤ y) → rowRun covers w h y ≡ leftAt closed y ∷ rightAt closed y ∷ []
+        by y k (no a) b =
+            let r = g .above y (omega arith) in
+            rw (r .0, r .1, zeros y .0, zeros y .1) (rows-above first y l d (omega arith))
+        by y k (yes a) (yes b) =
+            let r = g .below y a b in
+            rw (r .0, r .1, zeros y .0, zeros y .1) (rows-below past y e b)
+        by y k (yes a) (no b) =
+            let r = g .each y a (omega arith) in
+            row-ends covers w h y _ _ (omega (arith, clamp-is (greatestOf ys +ℤ pos 1) h past e .0)) (r .first) (r .past)
 
+  -- they were opened, cut by every edge and closed
+  module _ (sign : ℤ) (g : Signed xs ys sign) (first past : ℕ) (opened cut closed : List ℕ) where
     abbrev Cut : ℕ → ℕ → ℕ → ℕ → ℕ → Type 0
     Cut y a b left right = Kept (First xs ys sign (pos y) (length xs)) 0 w left right
 
     done : Rows (Opened w) first past blank opened → Rows (λ y. Kept (First xs ys sign (pos y) (length xs))) first past opened cut → Rows (λ y. Closed) first past cut closed
-        → Rows Done first past blank closed
+        → Rows (Done xs ys w) first past blank closed
     done o c f =
-        rows-then Cut (λ y. Closed) Done first past blank cut closed
+        rows-then Cut (λ y. Closed) (Done xs ys w) first past blank cut closed
         (rows-then (Opened w) (λ y. Kept (First xs ys sign (pos y) (length xs))) Cut first past blank opened cut o c
         (λ y a b lo hi left right p q. subst (λ (n : ℕ). Kept (First xs ys sign (pos y) (length xs)) 0 n left right) (p .1) (subst (λ (n : ℕ). Kept (First xs ys sign (pos y) (length xs)) n hi left right) (p .0) q)))
         f (λ y a b lo hi left right p q. row-closed xs ys same sign g y w lo hi left right p q)
 
     pub fill-all : h ≤ 256 → ClampI64Says (leastOf ys) h first → ClampI64Says (greatestOf ys +ℤ pos 1) h past → Rows (Opened w) first past blank opened
         → Rows (λ y. Kept (First xs ys sign (pos y) (length xs))) first past opened cut → Rows (λ y. Closed) first past cut closed → FillRunsSays xs ys w h closed
-    fill-all l d e o c f = runs-of-rows covers w h closed (done o c f .room .size) (λ y k. by y k (decLe first y) (decLe past y))
-      where
-        by : (y : ℕ) → y < 256 → Dec (first ≤ y) → Dec (past ≤ y) → rowRun covers w h y ≡ leftAt closed y ∷ rightAt closed y ∷ []
-        by y k (no a) b =
-            let r = done o c f .above y (omega arith) in
-            rw (r .0, r .1, zeros y .0, zeros y .1) (rows-above first y l d (omega arith))
-        by y k (yes a) (yes b) =
-            let r = done o c f .below y a b in
-            rw (r .0, r .1, zeros y .0, zeros y .1) (rows-below past y e b)
-        by y k (yes a) (no b) =
-            let r = done o c f .each y a (omega arith) in
-            row-ends covers w h y _ _ (omega (arith, clamp-is (greatestOf ys +ℤ pos 1) h past e .0)) (r .first) (r .past)
+    fill-all l d e o c f = fill-done first past closed l d e (done o c f)

@@ -2,6 +2,7 @@
 pub mod Polygon
 -- What the steps of fill_runs promise.
 pub mod Steps
+pub mod OneRow
 -- Proved of them.
 pub mod Sides
 pub mod Box
@@ -10,3 +11,4 @@ pub mod RowSteps
 pub mod Around
 pub mod FillLaws
 pub mod PolygonLaws
+pub mod OneRowLaws

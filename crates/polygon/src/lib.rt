@@ -12,11 +12,16 @@ ghost use Rattle.polygon.specs.Polygon.{
   side,
   area2,
   corners,
+  leastOf,
+  greatestOf,
   InRange,
   ExtentOfSays,
   FillRunsSays,
 };
+ghost use Rattle.polygon.specs.OneRow.{four, Done, FillQuadSays};
 ghost use Rattle.polygon.specs.Steps.{
+  Signed,
+  RowRun,
   Placed,
   signOf,
   nextOf,
@@ -273,4 +278,129 @@ pub fn fill_runs(xs: &[i32], ys: &[i32], w: usize, h: usize, out: &mut [u16; 512
     open_rows(w, first, past, out);
     cut_edges(xs, ys, sign_of(area), first, past, out);
     close_rows(first, past, out);
+}
+
+// Of the columns lo up to hi of row y, those on the inner side of the edge from i to j.
+fn cut_row(xi: i32, yi: i32, xj: i32, yj: i32, sign: i32, y: usize, lo: usize, hi: usize) -> Run
+    requires from { ⌜ Placed (at xi yi) ⌝ }
+    requires to { ⌜ Placed (at xj yj) ⌝ }
+    requires sign { ⌜ Bounded 1 sign ⌝ }
+    requires row { ⌜ y < 256 ⌝ }
+    ensures { λ r. ⌜ Kept (Inner sign (at xi yi) (at xj yj) (pos y)) lo hi (r .left) (r .right) ⌝ }
+{
+    let base = (yj - yi) * xi - (xj - xi) * yi;
+    half_line(
+        sign * (yi - yj),
+        sign * base + sign * (xj - xi) * (y as i32),
+        lo,
+        hi,
+    )
+}
+
+// The run of a row from its corners alone. What is an edge's own is the same in every row: in a loop the compiler works it out before.
+fn quad_row(
+    x0: i32,
+    y0: i32,
+    x1: i32,
+    y1: i32,
+    x2: i32,
+    y2: i32,
+    x3: i32,
+    y3: i32,
+    sign: i32,
+    w: usize,
+    y: usize,
+) -> Run
+    requires corners { ⌜ InRange (four x0 x1 x2 x3) (four y0 y1 y2 y3) ⌝ }
+    requires sign { ⌜ Signed (four x0 x1 x2 x3) (four y0 y1 y2 y3) sign ⌝ }
+    requires row { ⌜ y < 256 ⌝ }
+    ensures { λ r. ⌜ RowRun (four x0 x1 x2 x3) (four y0 y1 y2 y3) w y (r .left) (r .right) × (r .left ≤ w) × (r .right ≤ w) ⌝ }
+{
+    let a = cut_row(x0, y0, x1, y1, sign, y, 0, w);
+    let b = cut_row(x1, y1, x2, y2, sign, y, a.left, a.right);
+    let c = cut_row(x2, y2, x3, y3, sign, y, b.left, b.right);
+    let d = cut_row(x3, y3, x0, y0, sign, y, c.left, c.right);
+    closed(d.left, d.right)
+}
+
+fn quad_rows(
+    x0: i32,
+    y0: i32,
+    x1: i32,
+    y1: i32,
+    x2: i32,
+    y2: i32,
+    x3: i32,
+    y3: i32,
+    sign: i32,
+    w: usize,
+    first: usize,
+    past: usize,
+    out: &mut [u16; 512],
+)
+    requires corners { ⌜ InRange (four x0 x1 x2 x3) (four y0 y1 y2 y3) ⌝ }
+    requires sign { ⌜ Signed (four x0 x1 x2 x3) (four y0 y1 y2 y3) sign ⌝ }
+    requires columns { ⌜ w ≤ 256 ⌝ }
+    requires rows { ⌜ past ≤ 256 ⌝ }
+    requires places { ⌜ Room (now out) ⌝ }
+    ensures { λ _. ⌜ Rows (Done (four x0 x1 x2 x3) (four y0 y1 y2 y3) w) first past (now (out .entry)) (now (out .exit)) ⌝ }
+{
+    for y in first..past {
+        let run = quad_row(x0, y0, x1, y1, x2, y2, x3, y3, sign, w, y);
+        put_row(y, run.left, run.right, out);
+    }
+}
+
+fn lowest(a: i32, b: i32, c: i32, d: i32) -> i32
+    ensures { λ r. ⌜ r ≡ leastOf (four a b c d) ⌝ }
+{
+    whole::min_i32(a, whole::min_i32(b, whole::min_i32(c, d)))
+}
+
+fn highest(a: i32, b: i32, c: i32, d: i32) -> i32
+    ensures { λ r. ⌜ r ≡ greatestOf (four a b c d) ⌝ }
+{
+    whole::max_i32(a, whole::max_i32(b, whole::max_i32(c, d)))
+}
+
+// The same of four corners on plain numbers, row by row: a row is worked out by all edges at once, and written once.
+pub fn fill_quad(
+    x0: i32,
+    y0: i32,
+    x1: i32,
+    y1: i32,
+    x2: i32,
+    y2: i32,
+    x3: i32,
+    y3: i32,
+    w: usize,
+    h: usize,
+    out: &mut [u16; 512],
+)
+    requires corners { ⌜ InRange (four x0 x1 x2 x3) (four y0 y1 y2 y3) ⌝ }
+    requires size { ⌜ Sized w h ⌝ }
+    requires blank { ⌜ Blank (now out) ⌝ }
+    ensures { λ r. ⌜ FillQuadSays x0 y0 x1 y1 x2 y2 x3 y3 w h (now (out .exit)) ⌝ }
+{
+    let turn = side(x0, y0, x1, y1, x2, y2);
+    if turn == 0 {
+        return;
+    }
+    let first = whole::clamp_i64(lowest(y0, y1, y2, y3) as i64, h);
+    let past = whole::clamp_i64(highest(y0, y1, y2, y3) as i64 + 1, h);
+    quad_rows(
+        x0,
+        y0,
+        x1,
+        y1,
+        x2,
+        y2,
+        x3,
+        y3,
+        sign_of(turn),
+        w,
+        first,
+        past,
+        out,
+    );
 }

@@ -8,6 +8,7 @@ use borrow.Author.Tests.{eq-eqb, ne-eqb, eqb-true, not-false}
 use lib.Dec.{T, eqb}
 use lib.ListN.{length}
 use lib.Ieee.{Float}
+use Rattle.laws.specs.Fit.{no-both}
 use Rattle.laws.specs.Bools.{or-left, or-right}
 use Rattle.refusal.specs.Refusals.{Test, Sized, lowest, sizeIf, lengthIf, countIf, placeIf, opacityIf, badSize}
 use Rattle.refusal.specs.RefusalLaws.{above, lowest-skip, lowest-take, lowest-none, lowest-empty, sized}
@@ -18,13 +19,15 @@ use Rattle.score.specs.declared.Score.{Score}
 use Rattle.score.specs.declared.Scored.{Scored}
 use Rattle.score.specs.declared.Scored.the-variants.{Done, Refused}
 use Rattle.score.specs.declared.Request.{Request}
-use Rattle.score.specs.declared.Request.the-variants.{Levels}
+use Rattle.score.specs.declared.Request.the-variants.{Opacity, Levels}
 use Rattle.score.specs.declared.Collected.{Collected}
 use Rattle.sums.specs.declared.ShapeSums.{ShapeSums}
 use Rattle.sums.specs.Sums.{noSums}
 use Rattle.refusal.specs.ThreeTests as three
 use Rattle.score.specs.ScoringLaws.{count-range}
-use Rattle.score.specs.Scoring.{badCount, badOpacity, badLevels, spanRefusal, pointRefusal, sweepRefusal, spanSumsRefusal, pointSumsRefusal, answered, noneCollected, collected}
+use Rattle.score.specs.Finalize.{finalized}
+use Rattle.score.specs.Usual.{Usual}
+use Rattle.score.specs.Scoring.{scoreAt, badCount, badOpacity, badLevels, spanRefusal, pointRefusal, sweepRefusal, spanSumsRefusal, pointSumsRefusal, answered, noneCollected, collected}
 
 pub or-first : (a b : Bool) → a ≡ true → a || b ≡ true
 or-first a b h = ap (λ (t : Bool). t || b) h
@@ -87,6 +90,43 @@ pub point-passed : (kind : Kind) (request : Request) (levels : List Float) (w h 
 unfolding pointRefusal
 point-passed kind request levels w h target canvas e =
     passed (badSize w h) (badLevels levels || (badPicture w h (length target) || badPicture w h (length canvas))) (badCount request) (badPlaces kind) (badOpacity request levels) e
+
+-- ---- a call at one opacity that passed its tests in one go is not refused
+none-refused : (a b c d e : Bool) → a ≡ false → b ≡ false → c ≡ false → d ≡ false → e ≡ false
+    → lowest (sizeIf a ∷ lengthIf b ∷ countIf c ∷ placeIf d ∷ opacityIf e ∷ []) ≡ 0
+none-refused a b c d e ha hb hc hd he =
+    others-next a b (countIf c ∷ placeIf d ∷ opacityIf e ∷ []) tt ha hb
+    ∙ lowest-skip (countIf c) (placeIf d ∷ opacityIf e ∷ []) hc
+    ∙ lowest-skip (placeIf d) (opacityIf e ∷ []) hd
+    ∙ lowest-skip (opacityIf e) [] he
+    ∙ lowest-empty
+
+module _ (kind : Kind) (opacity : Float) (levels : List Float) (w h : ℕ) (u : Usual opacity (length levels) w h) (places : badPlaces kind ≡ false) where
+  fine : badOpacity (Opacity opacity) levels ≡ false
+  fine = ap not (u .opacity-in)
+
+  enough : badLevels levels ≡ false
+  enough = ap not (eq-eqb (length levels) 64 (u .levels-64))
+
+  pub usual-span : (table : List Float) → badTable w h (length table) ≡ false → spanRefusal kind (Opacity opacity) levels w h table ≡ 0
+  unfolding spanRefusal
+  usual-span table e =
+      none-refused (badSize w h) (badLevels levels || badTable w h (length table)) false (badPlaces kind) (badOpacity (Opacity opacity) levels)
+      (u .size) (or-neither (badLevels levels) (badTable w h (length table)) enough e) refl places fine
+
+  pub usual-point : (target canvas : List Float) → badPicture w h (length target) || badPicture w h (length canvas) ≡ false → pointRefusal kind (Opacity opacity) levels w h target canvas ≡ 0
+  unfolding pointRefusal
+  usual-point target canvas e =
+      none-refused (badSize w h) (badLevels levels || (badPicture w h (length target) || badPicture w h (length canvas))) false (badPlaces kind) (badOpacity (Opacity opacity) levels)
+      (u .size) (or-neither (badLevels levels) (badPicture w h (length target) || badPicture w h (length canvas)) enough e) refl places fine
+
+-- an answer that is not refused, and the score at one opacity
+pub answered-at : (n : ℕ) (r : Scored) (s t : Score) → n ≡ 0 → r ≡ answered 0 s → s ≡ t → r ≡ answered n t
+answered-at n r s t z e g = e ∙ ap Done g ∙ sym (ap (λ (b : Bool). cond b (Done t) (Refused n)) (eq-eqb n 0 z))
+
+pub score-opacity : (s : ShapeSums) (opacity : Float) (levels : List Float) → finalized s opacity ≡ scoreAt s (Opacity opacity) levels
+unfolding scoreAt
+score-opacity s opacity levels = refl
 
 -- ---- the answers
 pub answered-refused : (n k : ℕ) (s : Score) → k ≡ n → (k ≡ 0 → ⊥) → Refused k ≡ answered n s
@@ -154,3 +194,7 @@ pub collected-done : (n : ℕ) (s t : ShapeSums) → n ≡ 0 → t ≡ s → rec
 collected-done n s t z e =
     ap (λ (q : ShapeSums). record { refused = 0; sums = q }) e
     ∙ sym (ap (λ (b : Bool). cond b (record { refused = 0; sums = s }) (noneCollected n)) (eq-eqb n 0 z))
+
+pub not-holds : (b : Bool) → not b ≡ true → b ≡ false
+not-holds true h = no-both h refl
+not-holds false h = refl

@@ -8,6 +8,7 @@ pub mod Sweep
 pub mod SweepLaws
 pub mod Swept
 pub mod Scoring
+pub mod Usual
 pub mod RunSums
 pub mod ScoringLaws
 pub mod CallLaws

@@ -1,4 +1,5 @@
 -- Rules: what the loop over a shape's runs adds up, for the contracts of its steps. The score itself is said by `spanSums`.
+use mathlib.Core.Path.{_≡_}
 use mathlib.Core.Bool.{cond}
 use mathlib.Core.List.{List}
 use Prim.Native.Nat.{ℕ, _+_, _-_, _*_, _≤_, _<_}
@@ -7,6 +8,8 @@ use lib.Dec.{T, ltb}
 use lib.ListN.{getD}
 use lib.Ieee.{Float, nan}
 use Rattle.float.specs.Within.{number}
+use Rattle.cover.specs.declared.Kind.{Kind}
+use Rattle.cover.specs.ReachRows.{reachRows}
 use Rattle.sums.specs.declared.ShapeSums.{ShapeSums}
 use Rattle.sums.specs.Sums.{noSums, plus, minus}
 use Rattle.table.specs.Layout.{placeOf}
@@ -44,3 +47,7 @@ RunsFit runs w top bottom =
 -- none of the values a <= i < e is a NaN
 abbrev pub NumbersIn : List Float → ℕ → ℕ → Type 0
 NumbersIn xs a e = (i : ℕ) → a ≤ i → i < e → T (number (getD xs i nan))
+
+-- the rows of the shape's reach, which are some
+abbrev pub Reached : Kind → ℕ → ℕ → ℕ → ℕ → Type 0
+Reached kind w h top bottom = (top ≡ reachRows kind w h .top) × (bottom ≡ reachRows kind w h .bottom) × (top < bottom)

@@ -193,3 +193,15 @@ module _ (kind : Kind) (w h : ℕ) (room : h ≤ 256) where
   -- what the loops ask of the runs
   pub runs-fit : RunsFit runs w top bottom
   runs-fit y a b = run-bounds kind w h room y (through kind w h .inside y b a)
+
+  -- a reach without a row has no sums
+  module _ (empty : bottom ≤ top) where
+    no-rows : bottom - top ≡ 0
+    no-rows = omega (arith, empty)
+
+    pub none-spans : (table : List Float) → noSums ≡ spanSums kind w h table
+    none-spans table = sym (runs-none w table runs top) ∙ ap (runsAdded w table runs top) (sym no-rows) ∙ reach-sums table
+
+    pub none-points : (target canvas : List Float) → noSums ≡ pointSums kind w h target canvas
+    none-points target canvas =
+        sym (points-none w target canvas runs top) ∙ ap (pointsAdded w target canvas runs top) (sym no-rows) ∙ reach-points target canvas

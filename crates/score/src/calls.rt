@@ -1,13 +1,21 @@
 // The calls: tests in the order of their numbers, then the work. A refused call has read what is lent and changed nothing.
 ghost use mathlib.Core.Path.{_≡_};
-ghost use mathlib.Core.Bool.{false, _||_};
+ghost use mathlib.Core.Bool.{true, false, _||_};
 ghost use mathlib.Core.List.{[], _∷_};
 ghost use Prim.Native.Nat.{_≤_, _*_, _+_};
 ghost use lib.ListN.{length};
-ghost use Rattle.refusal.specs.Refusals.{lowest, sizeIf, lengthIf, countIf, placeIf, opacityIf, badSize};
+ghost use Rattle.refusal.specs.Refusals.{Sized, lowest, sizeIf, lengthIf, countIf, placeIf, opacityIf, badSize};
 ghost use Rattle.refusal.specs.Lengths.{badPicture, badTable};
 ghost use Rattle.cover.specs.Cover.{badPlaces};
+ghost use Rattle.score.specs.declared.Request.the-variants.{Opacity};
+ghost use Rattle.score.specs.Finalize.{finalized};
+ghost use Rattle.float.specs.Within.{within};
+ghost use Rattle.score.specs.Usual.{Usual};
+ghost use Rattle.score.specs.RunSums.{Reached};
 ghost use Rattle.score.specs.Scoring.{
+  answered,
+  spanSums,
+  pointSums,
   badCount,
   badOpacity,
   badLevels,
@@ -103,8 +111,98 @@ fn span_refusal(
     request_refusal(kind, request, levels)
 }
 
-// The score of a shape from a table, at one opacity or over the first of the lent levels.
+// Number by number, so that the answer is not copied as a block of what was just written in parts.
+fn done(s: Score) -> Scored
+    ensures { λ r. ⌜ r ≡ answered 0 s ⌝ }
+{
+    Scored::Done(Score {
+        opacity: s.opacity,
+        count: s.count,
+        change: s.change,
+        red: s.red,
+        green: s.green,
+        blue: s.blue,
+    })
+}
+
+// The one opacity that is asked for; for levels a NaN, which passes no test.
+fn asked(request: Request) -> f32
+    ensures { λ r. ⌜ (within r ≡ true → request ≡ Opacity r) ⌝ }
+{
+    match request {
+        Request::Opacity(a) => a,
+        Request::Levels(_) => 0.0 / 0.0,
+    }
+}
+
+// Sizes, levels and opacity pass their tests, in one go. Which one fails is left to the tests in order.
+fn usual(opacity: f32, levels: usize, w: usize, h: usize) -> bool
+    ensures { λ r. ⌜ (r ≡ true → Usual opacity levels w h) ⌝ }
+{
+    if refusal::bad_size(w, h) {
+        return false;
+    }
+    float::within(opacity) & (levels == 64)
+}
+
+fn usual_table(opacity: f32, levels: usize, w: usize, h: usize, table: usize) -> bool
+    ensures { λ r. ⌜ (r ≡ true → Usual opacity levels w h × (badTable w h table ≡ false)) ⌝ }
+{
+    if usual(opacity, levels, w, h) {
+        return !refusal::bad_table(w, h, table);
+    }
+    false
+}
+
+// The score at one opacity of a shape that reaches some rows, in a call that passed its tests.
+fn span_at(
+    kind: Kind,
+    opacity: f32,
+    top: usize,
+    bottom: usize,
+    w: usize,
+    h: usize,
+    table: &[f64],
+) -> Scored
+    requires sizes { ⌜ Sized w h ⌝ }
+    requires places { ⌜ badPlaces kind ≡ false ⌝ }
+    requires lent { ⌜ length (now table) ≡ h * (w + 1) * 15 ⌝ }
+    requires rows { ⌜ Reached kind w h top bottom ⌝ }
+    ensures { λ r. ⌜ r ≡ answered 0 (finalized (spanSums kind w h (now (table .entry))) opacity) ⌝ }
+{
+    let sums = crate::spans::reached_sums(kind, top, bottom, w, h, table);
+    done(crate::finalize(sums, opacity))
+}
+
+// The score of a shape from a table, at one opacity or over the first of the lent levels. At one opacity the tests come in one
+// go, and where the shape reaches no row nothing else is set up.
 pub fn span_score(
+    kind: Kind,
+    request: Request,
+    levels: &[f32],
+    w: usize,
+    h: usize,
+    table: &[f64],
+) -> Scored
+    ensures { λ r. ⌜ SpanScoreSays kind request (now (levels .entry)) w h (now (table .entry)) r ⌝ }
+{
+    let opacity = asked(request);
+    if usual_table(opacity, levels.len(), w, h, table.len()) {
+        if !cover::bad_places(kind) {
+            let rows = cover::reached::reach_rows(kind, w, h);
+            let top = rows.top;
+            let bottom = rows.bottom;
+            if bottom <= top {
+                return Scored::Done(crate::no_score(opacity, 0));
+            }
+            return span_at(kind, opacity, top, bottom, w, h, table);
+        }
+    }
+    tested_span_score(kind, request, levels, w, h, table)
+}
+
+// The same with the tests in order.
+fn tested_span_score(
     kind: Kind,
     request: Request,
     levels: &[f32],
@@ -156,7 +254,69 @@ fn point_refusal(
     request_refusal(kind, request, levels)
 }
 
+fn usual_pictures(
+    opacity: f32,
+    levels: usize,
+    w: usize,
+    h: usize,
+    target: usize,
+    canvas: usize,
+) -> bool
+    ensures { λ r. ⌜ (r ≡ true → Usual opacity levels w h × (badPicture w h target || badPicture w h canvas ≡ false)) ⌝ }
+{
+    if usual(opacity, levels, w, h) {
+        return !bad_pictures(w, h, target, canvas);
+    }
+    false
+}
+
+fn point_at(
+    kind: Kind,
+    opacity: f32,
+    top: usize,
+    bottom: usize,
+    w: usize,
+    h: usize,
+    target: &[f32],
+    canvas: &[f32],
+) -> Scored
+    requires sizes { ⌜ Sized w h ⌝ }
+    requires places { ⌜ badPlaces kind ≡ false ⌝ }
+    requires lent { ⌜ (length (now target) ≡ h * w * 3) × (length (now canvas) ≡ h * w * 3) ⌝ }
+    requires rows { ⌜ Reached kind w h top bottom ⌝ }
+    ensures { λ r. ⌜ r ≡ answered 0 (finalized (pointSums kind w h (now (target .entry)) (now (canvas .entry))) opacity) ⌝ }
+{
+    let sums = crate::points::reached_sums(kind, top, bottom, w, h, target, canvas);
+    done(crate::finalize(sums, opacity))
+}
+
 fn point_score(
+    kind: Kind,
+    request: Request,
+    levels: &[f32],
+    w: usize,
+    h: usize,
+    target: &[f32],
+    canvas: &[f32],
+) -> Scored
+    ensures { λ r. ⌜ PointScoreSays kind request (now (levels .entry)) w h (now (target .entry)) (now (canvas .entry)) r ⌝ }
+{
+    let opacity = asked(request);
+    if usual_pictures(opacity, levels.len(), w, h, target.len(), canvas.len()) {
+        if !cover::bad_places(kind) {
+            let rows = cover::reached::reach_rows(kind, w, h);
+            let top = rows.top;
+            let bottom = rows.bottom;
+            if bottom <= top {
+                return Scored::Done(crate::no_score(opacity, 0));
+            }
+            return point_at(kind, opacity, top, bottom, w, h, target, canvas);
+        }
+    }
+    tested_point_score(kind, request, levels, w, h, target, canvas)
+}
+
+fn tested_point_score(
     kind: Kind,
     request: Request,
     levels: &[f32],

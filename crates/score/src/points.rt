@@ -6,7 +6,7 @@ ghost use lib.ListN.{length};
 ghost use Rattle.refusal.specs.Refusals.{Sized};
 ghost use Rattle.cover.specs.Cover.{badPlaces};
 ghost use Rattle.sums.specs.Sums.{plus};
-ghost use Rattle.score.specs.RunSums.{pixelsAdded, pointsAdded, RunsFit, NumbersIn};
+ghost use Rattle.score.specs.RunSums.{pixelsAdded, pointsAdded, RunsFit, NumbersIn, Reached};
 ghost use Rattle.score.specs.Scoring.{pixelFrom, pointSums};
 use cover::Kind;
 use sums::ShapeSums;
@@ -19,12 +19,12 @@ fn numbers_in(xs: &[f32], a: usize, e: usize) -> bool
     float::all_numbers(&xs[a..e])
 }
 
-// The same of two pictures. A run of less than eight pixels is not looked through: that would cost more than it saves.
+// The same of two pictures. A run of less than 32 pixels is not looked through: that would cost more than it saves.
 fn both_numbers(target: &[f32], canvas: &[f32], a: usize, e: usize) -> bool
     requires { ⌜ (a ≤ e) × (e ≤ length (now target)) × (e ≤ length (now canvas)) ⌝ }
     ensures { λ r. ⌜ (r ≡ true → NumbersIn (now (target .entry)) a e × NumbersIn (now (canvas .entry)) a e) ⌝ }
 {
-    if e - a < 24 {
+    if e - a < 96 {
         return false;
     }
     if numbers_in(target, a, e) {
@@ -64,18 +64,75 @@ fn push_numbers(target: &[f32], canvas: &[f32], at: usize, s: ShapeSums) -> Shap
     )
 }
 
-fn push_pixel(target: &[f32], canvas: &[f32], at: usize, numbers: bool, s: ShapeSums) -> ShapeSums
-    requires { ⌜ (at + 3 ≤ length (now target)) × (at + 3 ≤ length (now canvas)) × (s .count + 1 < 2 ^ 32) ⌝ }
-    requires { ⌜ (numbers ≡ true → NumbersIn (now target) at (at + 3) × NumbersIn (now canvas) at (at + 3)) ⌝ }
-    ensures { λ r. ⌜ r ≡ plus s (pixelFrom (now (target .entry)) (now (canvas .entry)) at) ⌝ }
+// None of the pixel's channels is a NaN.
+fn numbers_at(target: &[f32], canvas: &[f32], at: usize) -> bool
+    requires { ⌜ (at + 3 ≤ length (now target)) × (at + 3 ≤ length (now canvas)) ⌝ }
+    ensures { λ r. ⌜ (r ≡ true → NumbersIn (now (target .entry)) at (at + 3) × NumbersIn (now (canvas .entry)) at (at + 3)) ⌝ }
 {
-    if numbers {
-        return push_numbers(target, canvas, at, s);
-    }
-    push_any(target, canvas, at, s)
+    let tr = target[at];
+    let tg = target[at + 1];
+    let tb = target[at + 2];
+    let cr = canvas[at];
+    let cg = canvas[at + 1];
+    let cb = canvas[at + 2];
+    (tr == tr) & (tg == tg) & (tb == tb) & (cr == cr) & (cg == cg) & (cb == cb)
 }
 
-// Pixels left <= x < right of row y. Looking for a NaN in all of them first is cheaper than in each by itself.
+// Pixels left <= x < right of row y, none of which is a NaN.
+fn push_known(
+    target: &[f32],
+    canvas: &[f32],
+    w: usize,
+    y: usize,
+    left: usize,
+    right: usize,
+    sums: ShapeSums,
+) -> ShapeSums
+    requires sizes { ⌜ (w ≤ 256) × (y < 256) × (left ≤ right) × (right ≤ w) × (sums .count + (right - left) < 2 ^ 31) ⌝ }
+    requires lent { ⌜ (y * w * 3 + w * 3 ≤ length (now target)) × (y * w * 3 + w * 3 ≤ length (now canvas)) ⌝ }
+    requires numbers { ⌜ NumbersIn (now target) ((y * w + left) * 3) ((y * w + right) * 3) × NumbersIn (now canvas) ((y * w + left) * 3) ((y * w + right) * 3) ⌝ }
+    ensures { λ r. ⌜ r ≡ pixelsAdded w (now (target .entry)) (now (canvas .entry)) y left (right - left) sums ⌝ }
+{
+    let mut s = sums;
+    let mut x = left;
+    while x < right {
+        s = push_numbers(target, canvas, (y * w + x) * 3, s);
+        x += 1;
+    }
+    s
+}
+
+// The same of any bits: each is looked at until there is a NaN, and from there on each channel.
+fn push_tested(
+    target: &[f32],
+    canvas: &[f32],
+    w: usize,
+    y: usize,
+    left: usize,
+    right: usize,
+    sums: ShapeSums,
+) -> ShapeSums
+    requires sizes { ⌜ (w ≤ 256) × (y < 256) × (left ≤ right) × (right ≤ w) × (sums .count + (right - left) < 2 ^ 31) ⌝ }
+    requires lent { ⌜ (y * w * 3 + w * 3 ≤ length (now target)) × (y * w * 3 + w * 3 ≤ length (now canvas)) ⌝ }
+    ensures { λ r. ⌜ r ≡ pixelsAdded w (now (target .entry)) (now (canvas .entry)) y left (right - left) sums ⌝ }
+{
+    let mut s = sums;
+    let mut x = left;
+    while x < right {
+        if !numbers_at(target, canvas, (y * w + x) * 3) {
+            break;
+        }
+        s = push_numbers(target, canvas, (y * w + x) * 3, s);
+        x += 1;
+    }
+    while x < right {
+        s = push_any(target, canvas, (y * w + x) * 3, s);
+        x += 1;
+    }
+    s
+}
+
+// Pixels left <= x < right of row y. In a long run, looking for a NaN in all of them first is cheaper than in each by itself.
 fn push_row(
     target: &[f32],
     canvas: &[f32],
@@ -89,14 +146,10 @@ fn push_row(
     requires lent { ⌜ (y * w * 3 + w * 3 ≤ length (now target)) × (y * w * 3 + w * 3 ≤ length (now canvas)) ⌝ }
     ensures { λ r. ⌜ r ≡ pixelsAdded w (now (target .entry)) (now (canvas .entry)) y left (right - left) sums ⌝ }
 {
-    let numbers = both_numbers(target, canvas, (y * w + left) * 3, (y * w + right) * 3);
-    let mut s = sums;
-    let mut x = left;
-    while x < right {
-        s = push_pixel(target, canvas, (y * w + x) * 3, numbers, s);
-        x += 1;
+    if both_numbers(target, canvas, (y * w + left) * 3, (y * w + right) * 3) {
+        return push_known(target, canvas, w, y, left, right, sums);
     }
-    s
+    push_tested(target, canvas, w, y, left, right, sums)
 }
 
 // The runs of rows top to bottom, from the top row down.
@@ -123,6 +176,27 @@ fn push_rows(
     s
 }
 
+// The sums of a shape over the rows of its reach, which are some.
+pub(crate) fn reached_sums(
+    kind: Kind,
+    top: usize,
+    bottom: usize,
+    w: usize,
+    h: usize,
+    target: &[f32],
+    canvas: &[f32],
+) -> ShapeSums
+    requires sizes { ⌜ Sized w h ⌝ }
+    requires places { ⌜ badPlaces kind ≡ false ⌝ }
+    requires lent { ⌜ (length (now target) ≡ h * w * 3) × (length (now canvas) ≡ h * w * 3) ⌝ }
+    requires rows { ⌜ Reached kind w h top bottom ⌝ }
+    ensures { λ r. ⌜ r ≡ pointSums kind w h (now (target .entry)) (now (canvas .entry)) ⌝ }
+{
+    let mut runs = [0u16; 512];
+    cover::runs(kind, w, h, &mut runs);
+    push_rows(&runs, top, bottom, target, canvas, w)
+}
+
 // The sums of a shape whose sizes and places were tested, over the rows of its reach.
 pub(crate) fn point_sums(
     kind: Kind,
@@ -142,7 +216,5 @@ pub(crate) fn point_sums(
     if bottom <= top {
         return ShapeSums::new();
     }
-    let mut runs = [0u16; 512];
-    cover::runs(kind, w, h, &mut runs);
-    push_rows(&runs, top, bottom, target, canvas, w)
+    reached_sums(kind, top, bottom, w, h, target, canvas)
 }

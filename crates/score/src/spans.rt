@@ -5,7 +5,7 @@ ghost use Prim.Native.Nat.{_+_, _-_, _*_, _≤_, _<_, _^_};
 ghost use lib.ListN.{length};
 ghost use Rattle.refusal.specs.Refusals.{Sized};
 ghost use Rattle.cover.specs.Cover.{badPlaces};
-ghost use Rattle.score.specs.RunSums.{runAdded, runsAdded, RunsFit};
+ghost use Rattle.score.specs.RunSums.{runAdded, runsAdded, RunsFit, Reached};
 ghost use Rattle.score.specs.Scoring.{spanSums};
 use cover::Kind;
 use sums::ShapeSums;
@@ -38,6 +38,26 @@ fn add_rows(runs: &[u16; 512], top: usize, bottom: usize, table: &[f64], w: usiz
     s
 }
 
+// The sums of a shape over the rows of its reach, which are some.
+pub(crate) fn reached_sums(
+    kind: Kind,
+    top: usize,
+    bottom: usize,
+    w: usize,
+    h: usize,
+    table: &[f64],
+) -> ShapeSums
+    requires sizes { ⌜ Sized w h ⌝ }
+    requires places { ⌜ badPlaces kind ≡ false ⌝ }
+    requires lent { ⌜ length (now table) ≡ h * (w + 1) * 15 ⌝ }
+    requires rows { ⌜ Reached kind w h top bottom ⌝ }
+    ensures { λ r. ⌜ r ≡ spanSums kind w h (now (table .entry)) ⌝ }
+{
+    let mut runs = [0u16; 512];
+    cover::runs(kind, w, h, &mut runs);
+    add_rows(&runs, top, bottom, table, w)
+}
+
 // The sums of a shape whose sizes and places were tested, over the rows of its reach.
 pub(crate) fn span_sums(kind: Kind, w: usize, h: usize, table: &[f64]) -> ShapeSums
     requires sizes { ⌜ Sized w h ⌝ }
@@ -51,7 +71,5 @@ pub(crate) fn span_sums(kind: Kind, w: usize, h: usize, table: &[f64]) -> ShapeS
     if bottom <= top {
         return ShapeSums::new();
     }
-    let mut runs = [0u16; 512];
-    cover::runs(kind, w, h, &mut runs);
-    add_rows(&runs, top, bottom, table, w)
+    reached_sums(kind, top, bottom, w, h, table)
 }

@@ -1,66 +1,116 @@
--- `score::calls::point_score` meets its contract: the refusal, or the score of the sums.
-use mathlib.Core.Path.{_≡_, sym, _∙_, ap}
-use mathlib.Core.Bool.{_||_}
-use lib.ListN.{length}
-use Rattle.laws.specs.Bools.{or-left, or-right}
-use Rattle.refusal.specs.Refusals.{badSize}
-use Rattle.refusal.specs.RefusalLaws.{sized}
-use Rattle.refusal.specs.Lengths.{badPicture}
-use Rattle.cover.specs.Cover.{badPlaces}
-use Rattle.sums.specs.declared.ShapeSums.{ShapeSums}
-use Rattle.score.specs.Scoring.{badCount, badOpacity, badLevels, pointRefusal, scoreAt, pointSums}
-use Rattle.score.specs.CallLaws.{Passed, point-passed, levels-length, picture-lengths, answered-refused, answered-done}
+-- `score::calls::point_score` meets its contract: a call that passes all tests at once is not refused, and one that does not is tested in order.
+use mathlib.Core.Path.{_≡_, refl, sym, _∙_, ap, subst}
+use mathlib.Core.Bool.{false}
+use Prim.Native.Nat.{_≤_, _<_}
 use native.Mathlib.Omega.{arith}
+use lib.ListN.{length}
+use Rattle.refusal.specs.RefusalLaws.{sized}
+use Rattle.cover.specs.Cover.{badPlaces}
+use Rattle.cover.specs.ReachRows.{reachRows}
+use Rattle.cover.specs.declared.reached.Rows.{Rows}
+use Rattle.sums.specs.declared.ShapeSums.{ShapeSums}
+use Rattle.sums.specs.Sums.{noSums}
+use Rattle.score.specs.declared.Request.{Request}
+use Rattle.score.specs.declared.Scored.{Scored}
+use Rattle.score.specs.declared.Request.the-variants.{Opacity}
+use Rattle.score.specs.Finalize.{finalized}
+use Rattle.score.specs.FinalizeLaws.{finalized-none}
+use Rattle.score.specs.Scoring.{pointRefusal, pointSums, scoreAt, answered}
+use Rattle.score.specs.ScoringLaws.{no-count, none-points}
+use Rattle.score.specs.CallLaws.{not-holds, picture-lengths, usual-point, answered-at, score-opacity}
 use borrow.Author.Needs.{needs}
 use Rattle.score.proofs.calls.point_score.Statement.{statement}
 use Rattle.score.proofs.calls.point_score.Tie as tie
 
-point-refusal-requires : tie.Need-point-refusal-requires
-point-refusal-requires c κs = search needs
+asked-requires : tie.Need-asked-requires
+asked-requires c κs = search needs
+
+usual-pictures-requires : tie.Need-usual-pictures-requires
+usual-pictures-requires c κs = search needs
+
+bad-places-requires : tie.Need-bad-places-requires
+bad-places-requires c κs = search needs
+
+-- what is known where all tests passed
+module _ (c : tie.Then2) where
+  abbrev tested : tie.After-usual-pictures
+  tested = c .before .before .before
+
+  abbrev start : tie.Start
+  start = tested .before .before .before .before .before
+
+  fine : badPlaces (start .args .kind) ≡ false
+  fine = sym (c .before .bad-places .ensures) ∙ not-holds (c .before .bad-places .result) (c .if2 .taken)
+
+  -- the answer, as one to the opacity
+  told : (r : Scored) → r ≡ answered 0 (finalized (pointSums (start .args .kind) (start .args .w) (start .args .h) (start .args .target .now) (start .args .canvas .now)) (tested .before .asked .result))
+      → r ≡ answered (pointRefusal (start .args .kind) (start .args .request) (start .args .levels .now) (start .args .w) (start .args .h) (start .args .target .now) (start .args .canvas .now)) (scoreAt (pointSums (start .args .kind) (start .args .w) (start .args .h) (start .args .target .now) (start .args .canvas .now)) (start .args .request) (start .args .levels .now))
+  told r e =
+      let a = start .args in
+      let o = tested .before .asked .result in
+      let f = tested .usual-pictures .ensures (c .before .before .if1 .taken) in
+      let p = fine in
+      subst (λ (q : Request). r ≡ answered (pointRefusal (a .kind) q (a .levels .now) (a .w) (a .h) (a .target .now) (a .canvas .now)) (scoreAt (pointSums (a .kind) (a .w) (a .h) (a .target .now) (a .canvas .now)) q (a .levels .now)))
+      (sym (tested .before .asked .ensures (f .0 .opacity-in)))
+      (answered-at (pointRefusal (a .kind) (Opacity o) (a .levels .now) (a .w) (a .h) (a .target .now) (a .canvas .now)) r (finalized (pointSums (a .kind) (a .w) (a .h) (a .target .now) (a .canvas .now)) o) _
+      (usual-point (a .kind) o (a .levels .now) (a .w) (a .h) (f .0) p (a .target .now) (a .canvas .now) (f .1)) e (score-opacity (pointSums (a .kind) (a .w) (a .h) (a .target .now) (a .canvas .now)) o (a .levels .now)))
+
+reach-rows-requires : tie.Need-reach-rows-requires
+reach-rows-requires c κs =
+    let a = start c .args in
+    let f = tested c .usual-pictures .ensures (c .before .before .if1 .taken) in
+    (sized (a .w) (a .h) (f .0 .size), fine c)
+
+no-score-requires : tie.Need-no-score-requires
+no-score-requires c κs = search needs
+
+module _ (c : tie.After-reach-rows) where
+  top-is : c .reach-rows .result .top ≡ reachRows (start (c .before) .args .kind) (start (c .before) .args .w) (start (c .before) .args .h) .top
+  top-is = ap (λ (r : Rows). r .top) (c .reach-rows .ensures)
+
+  bottom-is : c .reach-rows .result .bottom ≡ reachRows (start (c .before) .args .kind) (start (c .before) .args .w) (start (c .before) .args .h) .bottom
+  bottom-is = ap (λ (r : Rows). r .bottom) (c .reach-rows .ensures)
 
 returns : tie.Need-returns
 returns c =
-    let n = c .before in
-    let a = n .before .before .before .before .args in
-    answered-refused (pointRefusal (a .kind) (a .request) (a .levels .now) (a .w) (a .h) (a .target .now) (a .canvas .now)) (n .point-refusal .result)
-    (scoreAt (pointSums (a .kind) (a .w) (a .h) (a .target .now) (a .canvas .now)) (a .request) (a .levels .now)) (n .point-refusal .ensures) (c .if1 .taken)
+    let r = c .before .before in
+    let t = r .before in
+    let a = start t .args in
+    let o = tested t .before .asked .result in
+    let f = tested t .usual-pictures .ensures (t .before .before .if1 .taken) in
+    let z : reachRows (a .kind) (a .w) (a .h) .bottom ≤ reachRows (a .kind) (a .w) (a .h) .top = omega (arith, c .before .if3 .taken, top-is r, bottom-is r) in
+    told t _ (ap (answered 0) (c .no-score .ensures ∙ finalized-none noSums o no-count
+    ∙ ap (λ (q : ShapeSums). finalized q o) (none-points (a .kind) (a .w) (a .h) (sized (a .w) (a .h) (f .0 .size) .h-high) z (a .target .now) (a .canvas .now))))
 
--- what a call that is not refused knows
-module _ (c : tie.Else1) where
-  done : pointRefusal (c .before .before .before .before .before .args .kind) (c .before .before .before .before .before .args .request) (c .before .before .before .before .before .args .levels .now)
-      (c .before .before .before .before .before .args .w) (c .before .before .before .before .before .args .h) (c .before .before .before .before .before .args .target .now) (c .before .before .before .before .before .args .canvas .now) ≡ 0
-  done = sym (c .before .point-refusal .ensures) ∙ c .if1 .left
-
-  known : Passed (badSize (c .before .before .before .before .before .args .w) (c .before .before .before .before .before .args .h))
-      (badLevels (c .before .before .before .before .before .args .levels .now)
-      || (badPicture (c .before .before .before .before .before .args .w) (c .before .before .before .before .before .args .h) (length (c .before .before .before .before .before .args .target .now))
-      || badPicture (c .before .before .before .before .before .args .w) (c .before .before .before .before .before .args .h) (length (c .before .before .before .before .before .args .canvas .now))))
-      (badCount (c .before .before .before .before .before .args .request)) (badPlaces (c .before .before .before .before .before .args .kind))
-      (badOpacity (c .before .before .before .before .before .args .request) (c .before .before .before .before .before .args .levels .now))
-  known = let a = c .before .before .before .before .before .args in point-passed (a .kind) (a .request) (a .levels .now) (a .w) (a .h) (a .target .now) (a .canvas .now) done
-
-point-sums-requires : tie.Need-point-sums-requires
-point-sums-requires c κs =
-    let a = c .before .before .before .before .before .args in
-    let k = known c in
-    (sized (a .w) (a .h) (k .size), (k .place, picture-lengths (a .w) (a .h) (length (a .target .now)) (length (a .canvas .now)) (or-right (badLevels (a .levels .now)) (badPicture (a .w) (a .h) (length (a .target .now)) || badPicture (a .w) (a .h) (length (a .canvas .now))) (k .lengths))))
-
-score-at-requires : tie.Need-score-at-requires
-score-at-requires c κs =
-    let e = c .before in
-    let a = e .before .before .before .before .before .args in
-    let k = known e in
-    (levels-length (a .levels .now) (or-left (badLevels (a .levels .now)) (badPicture (a .w) (a .h) (length (a .target .now)) || badPicture (a .w) (a .h) (length (a .canvas .now))) (k .lengths)), k .count)
+point-at-requires : tie.Need-point-at-requires
+point-at-requires c κs =
+    let r = c .before in
+    let t = r .before in
+    let a = start t .args in
+    let f = tested t .usual-pictures .ensures (t .before .before .if1 .taken) in
+    let l : c .before .reach-rows .result .top < c .before .reach-rows .result .bottom = omega (arith, c .if3 .left) in
+    (sized (a .w) (a .h) (f .0 .size), (fine t, (picture-lengths (a .w) (a .h) (length (a .target .now)) (length (a .canvas .now)) (f .1), (top-is r, bottom-is r, l))))
 
 returns-2 : tie.Need-returns-2
-returns-2 c =
-    let e = c .before .before in
-    let a = e .before .before .before .before .before .args in
-    answered-done (pointRefusal (a .kind) (a .request) (a .levels .now) (a .w) (a .h) (a .target .now) (a .canvas .now))
-    (scoreAt (pointSums (a .kind) (a .w) (a .h) (a .target .now) (a .canvas .now)) (a .request) (a .levels .now)) (c .score-at .result) (done e)
-    (c .score-at .ensures ∙ ap (λ (q : ShapeSums). scoreAt q (a .request) (a .levels .now)) (c .before .point-sums .ensures))
+returns-2 c = told (c .before .before .before) _ (c .point-at .ensures)
+
+tested-point-score-requires : tie.Need-tested-point-score-requires
+tested-point-score-requires c κs = search needs
+
+returns-3 : tie.Need-returns-3
+returns-3 c = c .tested-point-score .ensures
 
 pub point-score-spec : {M : Type 1} → statement M
 point-score-spec =
     tie.close
-    (tie.spec point-refusal-requires returns point-sums-requires score-at-requires returns-2)
+    (tie.spec
+    asked-requires
+    usual-pictures-requires
+    bad-places-requires
+    reach-rows-requires
+    no-score-requires
+    returns
+    point-at-requires
+    returns-2
+    tested-point-score-requires
+    returns-3)

@@ -1,134 +1,58 @@
--- `score::points::push_row` meets its contract: the sums so far are those of the pixels to the left.
-use mathlib.Core.Path.{_≡_, sym, _∙_, ap}
+-- `score::points::push_row` meets its contract: either way the same pixels are added.
 use Prim.Native.Nat.{ℕ, _+_, _-_, _*_, _≤_, _<_}
 use native.Mathlib.Nat.{mul-le-mul}
-use Rattle.sums.specs.declared.ShapeSums.{ShapeSums}
-use Rattle.sums.specs.Sums.{plus, pixelSums}
-use Rattle.score.specs.RunSums.{pixelsAdded}
-use Rattle.score.specs.Scoring.{pixelAt}
-use Rattle.score.specs.ScoringLaws.{pixels-none, pixels-more}
-use borrow.Author.Needs.{needs}
 use native.Mathlib.Omega.{arith}
+use borrow.Author.Needs.{needs}
 use Rattle.score.proofs.points.push_row.Statement.{statement}
 use Rattle.score.proofs.points.push_row.Tie as tie
 
-abbrev Inv-loop : tie.InvT-loop
-Inv-loop target canvas w y left right numbers s₀ x₀ s x =
-    (left ≤ x) × (x ≤ right) × (s .count ≡ s₀ .count + (x - left)) × (s ≡ pixelsAdded w target canvas y left (x - left) s₀)
-
-abbrev μ-loop : tie.MeasureT-loop
-μ-loop target canvas w y left right numbers s₀ x₀ s x = right - x
-
-small : (g : tie.Start Inv-loop μ-loop) → g .args .y * g .args .w ≤ 65536
+small : (g : tie.Start) → g .args .y * g .args .w ≤ 65536
 small g =
     let p : g .args .y ≤ 256 = omega (arith, g .pre .0 .1) in
     let m : g .args .y * g .args .w ≤ 256 * 256 = mul-le-mul p (g .pre .0 .0) in
     omega arith
 
-mul-both-numbers : tie.Need-mul-both-numbers Inv-loop μ-loop
+mul-both-numbers : tie.Need-mul-both-numbers
 mul-both-numbers c = omega (arith, small (c .before .before))
 
-add-both-numbers : tie.Need-add-both-numbers Inv-loop μ-loop
+add-both-numbers : tie.Need-add-both-numbers
 add-both-numbers c = let g = c .before .before in omega (arith, small g, g .pre .0 .0, g .pre .0 .2, g .pre .0 .3)
 
-mul-both-numbers-2 : tie.Need-mul-both-numbers-2 Inv-loop μ-loop
+mul-both-numbers-2 : tie.Need-mul-both-numbers-2
 mul-both-numbers-2 c = let g = c .before .before in omega (arith, small g, g .pre .0 .0, g .pre .0 .2, g .pre .0 .3)
 
-mul-both-numbers-3 : tie.Need-mul-both-numbers-3 Inv-loop μ-loop
+mul-both-numbers-3 : tie.Need-mul-both-numbers-3
 mul-both-numbers-3 c = omega (arith, small (c .before .before))
 
-add-both-numbers-2 : tie.Need-add-both-numbers-2 Inv-loop μ-loop
+add-both-numbers-2 : tie.Need-add-both-numbers-2
 add-both-numbers-2 c = let g = c .before .before in omega (arith, small g, g .pre .0 .0, g .pre .0 .3)
 
-mul-both-numbers-4 : tie.Need-mul-both-numbers-4 Inv-loop μ-loop
+mul-both-numbers-4 : tie.Need-mul-both-numbers-4
 mul-both-numbers-4 c = let g = c .before .before in omega (arith, small g, g .pre .0 .0, g .pre .0 .3)
 
-both-numbers-requires : tie.Need-both-numbers-requires Inv-loop μ-loop
+both-numbers-requires : tie.Need-both-numbers-requires
 both-numbers-requires c κs =
     let g = c .before .before in
     (omega (arith, g .pre .0 .2), omega (arith, g .pre .0 .3, g .pre .1 .0), omega (arith, g .pre .0 .3, g .pre .1 .1))
 
-loop-holds : tie.Need-loop-holds Inv-loop μ-loop
-loop-holds c =
-    let g = c .before .before .before in
-    let a = g .args in
-    let z : a .left - a .left ≡ 0 = omega arith in (
-      omega arith,
-      g .pre .0 .2,
-      omega arith,
-      sym (pixels-none (a .w) (a .target .now) (a .canvas .now) (a .y) (a .left) (a .sums))
-          ∙ ap (λ (k : ℕ). pixelsAdded (a .w) (a .target .now) (a .canvas .now) (a .y) (a .left) k (a .sums)) (sym z),
-    )
+push-known-requires : tie.Need-push-known-requires
+push-known-requires c κs =
+    let g = c .before .before .before .before in
+    (g .pre .0, (g .pre .1, c .before .both-numbers .ensures (c .if1 .taken)))
 
-module _ (c : tie.In-loop Inv-loop μ-loop) where
-  abbrev start : tie.Start Inv-loop μ-loop
-  start = c .before .before .before .before .before
+returns : tie.Need-returns
+returns c = c .push-known .ensures
 
-  place : c .before .loop .x < start .args .w
-  place = omega (arith, start .pre .0 .3, c .loop-test .taken)
+push-tested-requires : tie.Need-push-tested-requires
+push-tested-requires c κs = search needs
 
-  -- the pixel's three channels lie in the row
-  inside : (start .args .y * start .args .w + c .before .loop .x) * 3 + 3 ≤ start .args .y * start .args .w * 3 + start .args .w * 3
-  inside = omega (arith, place)
-
-mul-push-pixel : tie.Need-mul-push-pixel Inv-loop μ-loop
-mul-push-pixel c = omega (arith, small (start c))
-
-add-push-pixel : tie.Need-add-push-pixel Inv-loop μ-loop
-add-push-pixel c = omega (arith, small (start c), place c, start c .pre .0 .0)
-
-mul-push-pixel-2 : tie.Need-mul-push-pixel-2 Inv-loop μ-loop
-mul-push-pixel-2 c = omega (arith, small (start c), place c, start c .pre .0 .0)
-
-push-pixel-requires : tie.Need-push-pixel-requires Inv-loop μ-loop
-push-pixel-requires c κs =
-    let g = start c in
-    let l = c .before .loop in (
-      (
-        omega (arith, inside c, g .pre .1 .0),
-        omega (arith, inside c, g .pre .1 .1),
-        omega (arith, l .inv .2, g .pre .0 .4, c .loop-test .taken, l .inv .0),
-      ),
-      (λ h.
-          let n = c .before .before .both-numbers .ensures h in (
-            (λ i a b. n .0 i (omega (arith, l .inv .0)) (omega (arith, c .loop-test .taken))),
-            (λ i a b. n .1 i (omega (arith, l .inv .0)) (omega (arith, c .loop-test .taken))),
-          )),
-    )
-
-add-x : tie.Need-add-x Inv-loop μ-loop
-add-x c = omega (arith, place (c .before), start (c .before) .pre .0 .0)
-
-loop-less : tie.Need-loop-less Inv-loop μ-loop
-loop-less c = omega (arith, c .before .loop-test .taken)
-
-loop-again : tie.Need-loop-again Inv-loop μ-loop
-unfolding plus pixelSums
-loop-again c =
-    let t = c .before in
-    let l = t .before .loop in
-    let a = t .before .before .before .before .before .args in
-    let r = c .push-pixel .ensures in (
-      omega (arith, l .inv .0),
-      omega (arith, t .loop-test .taken),
-      omega (arith, ap (λ (q : ShapeSums). q .count) r, l .inv .2, l .inv .0),
-      r ∙ ap (λ (q : ShapeSums). plus q (pixelAt (a .w) (a .target .now) (a .canvas .now) (a .y) (l .x))) (l .inv .3)
-          ∙ pixels-more (a .w) (a .target .now) (a .canvas .now) (a .y) (a .left) (l .x) (a .sums) (l .inv .0),
-    )
-
-returns : tie.Need-returns Inv-loop μ-loop
-returns c =
-    let l = c .before .loop in
-    let a = c .before .before .before .before .before .args in
-    let e : l .x ≡ a .right = omega (arith, l .inv .1, c .loop-test .left) in
-    l .inv .3 ∙ ap (λ (x : ℕ). pixelsAdded (a .w) (a .target .now) (a .canvas .now) (a .y) (a .left) (x - a .left) (a .sums)) e
+returns-2 : tie.Need-returns-2
+returns-2 c = c .push-tested .ensures
 
 pub push-row-spec : {M : Type 1} → statement M
 push-row-spec =
     tie.close
     (tie.spec
-    Inv-loop
-    μ-loop
     mul-both-numbers
     add-both-numbers
     mul-both-numbers-2
@@ -136,12 +60,7 @@ push-row-spec =
     add-both-numbers-2
     mul-both-numbers-4
     both-numbers-requires
-    loop-holds
-    mul-push-pixel
-    add-push-pixel
-    mul-push-pixel-2
-    push-pixel-requires
-    add-x
-    loop-less
-    loop-again
-    returns)
+    push-known-requires
+    returns
+    push-tested-requires
+    returns-2)

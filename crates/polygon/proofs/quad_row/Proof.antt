@@ -1,0 +1,73 @@
+-- `polygon::quad_row` meets its contract: the columns that are left after four edges.
+use borrow.Author.Needs.{needs}
+use mathlib.Core.Path.{sym}
+use mathlib.Core.List.{List}
+use Prim.Native.Nat.{ℕ}
+use lib.IntN.{ℤ, pos}
+use lib.ListN.{getD}
+use mir.Syntax.{w32}
+use mir.Val.{toZ, ofZ}
+use mir.Facts.{toZ-ofZ}
+use Rattle.laws.specs.Bound.{Bounded}
+use Rattle.laws.specs.Bounds.{arg, ld, ldw, weq}
+use Rattle.polygon.specs.Polygon.{at, area2, corners}
+use Rattle.polygon.specs.Steps.{Placed}
+use Rattle.polygon.specs.StepLaws.{sign-bounded, corner-placed}
+use Rattle.polygon.specs.OneRow.{four}
+use Rattle.polygon.specs.OneRowLaws.{four-edges}
+use Rattle.polygon.proofs.quad_row.Statement.{statement}
+use Rattle.polygon.proofs.quad_row.Tie as tie
+
+module _ (s : tie.Start) where
+  abbrev xs : List ℤ
+  xs = four (s .args .x0) (s .args .x1) (s .args .x2) (s .args .x3)
+
+  abbrev ys : List ℤ
+  ys = four (s .args .y0) (s .args .y1) (s .args .y2) (s .args .y3)
+
+  placed : (i : ℕ) → Placed (at (toZ w32 (ofZ w32 (getD xs i (pos 0)))) (toZ w32 (ofZ w32 (getD ys i (pos 0)))))
+  placed i = corner-placed xs ys (s .pre .0) i
+
+  turned : Bounded 1 (toZ w32 (ofZ w32 (s .args .sign)))
+  turned = arg tt (ld (s .fits .sign) (weq (s .pre .1 .0 .is) (sign-bounded (area2 (corners xs ys)))))
+
+cut-row-requires : tie.Need-cut-row-requires
+cut-row-requires c κs = let s = c in (placed s 0, (placed s 1, (turned s, s .pre .1 .1)))
+
+cut-row-requires-2 : tie.Need-cut-row-requires-2
+cut-row-requires-2 c κs = let s = c .before in (placed s 1, (placed s 2, (turned s, s .pre .1 .1)))
+
+cut-row-requires-3 : tie.Need-cut-row-requires-3
+cut-row-requires-3 c κs = let s = c .before .before in (placed s 2, (placed s 3, (turned s, s .pre .1 .1)))
+
+cut-row-requires-4 : tie.Need-cut-row-requires-4
+cut-row-requires-4 c κs = let s = c .before .before .before in (placed s 3, (placed s 0, (turned s, s .pre .1 .1)))
+
+closed-requires : tie.Need-closed-requires
+closed-requires c κs = search needs
+
+returns : tie.Need-returns
+returns c =
+    let d = c .before in
+    let e = d .before in
+    let b = e .before in
+    let a = b .before in
+    let s = a .before in
+    let g = s .args in
+    four-edges (g .x0) (g .y0) (g .x1) (g .y1) (g .x2) (g .y2) (g .x3) (g .y3) (g .sign) (s .pre .1 .0) (g .w) (g .y) _ _ _ _ _ _ _ _ _ _
+    (simp (toZ-ofZ, s .fits .x0, s .fits .y0, s .fits .x1, s .fits .y1, s .fits .sign) at (a .cut-row .ensures))
+    (simp (toZ-ofZ, s .fits .x1, s .fits .y1, s .fits .x2, s .fits .y2, s .fits .sign) at (b .cut-row2 .ensures))
+    (simp (toZ-ofZ, s .fits .x2, s .fits .y2, s .fits .x3, s .fits .y3, s .fits .sign) at (e .cut-row3 .ensures))
+    (simp (toZ-ofZ, s .fits .x3, s .fits .y3, s .fits .x0, s .fits .y0, s .fits .sign) at (d .cut-row4 .ensures))
+    (c .closed .ensures)
+
+pub quad-row-spec : {M : Type 1} → statement M
+quad-row-spec =
+    tie.close
+    (tie.spec
+    cut-row-requires
+    cut-row-requires-2
+    cut-row-requires-3
+    cut-row-requires-4
+    closed-requires
+    returns)

@@ -1,0 +1,45 @@
+-- Laws: a row from the four edges, one after another; one answer for the promise.
+use mathlib.Core.Path.{_≡_, refl, sym, _∙_}
+use mathlib.Core.List.{List, [], _∷_}
+use Prim.Native.Nat.{ℕ, _≤_, _<_}
+use native.Mathlib.Omega.{arith}
+use native.Mathlib.Decide.{decLe}
+use lib.IntN.{ℤ, pos}
+use Rattle.polygon.specs.Polygon.{at}
+use Rattle.polygon.specs.PolygonLaws.{FillRunsSays-unique}
+use Rattle.polygon.specs.Steps.{Kept, Inner, Closed, Signed, RowRun}
+use Rattle.polygon.specs.OneRow.{four, FillQuadSays}
+use Rattle.polygon.specs.Around.{first-none, first-more, row-closed}
+
+pub FillQuadSays-unique : (x0 y0 x1 y1 x2 y2 x3 y3 : ℤ) (w h : ℕ) (r s : List ℕ)
+    → FillQuadSays x0 y0 x1 y1 x2 y2 x3 y3 w h r → FillQuadSays x0 y0 x1 y1 x2 y2 x3 y3 w h s → r ≡ s
+FillQuadSays-unique x0 y0 x1 y1 x2 y2 x3 y3 = FillRunsSays-unique (four x0 x1 x2 x3) (four y0 y1 y2 y3)
+
+closed-within : (n lo hi left right : ℕ) → hi ≤ n → Closed lo hi left right → (left ≤ n) × (right ≤ n)
+closed-within n lo hi left right l c = by (decLe hi lo)
+  where
+    by : Dec (hi ≤ lo) → (left ≤ n) × (right ≤ n)
+    by (yes h) = (omega (arith, c .none h .0), omega (arith, c .none h .1))
+    by (no h) = let g : lo < hi = omega arith in (omega (arith, c .some g .0), omega (arith, c .some g .1))
+
+module _ (x0 y0 x1 y1 x2 y2 x3 y3 sign : ℤ) (g : Signed (four x0 x1 x2 x3) (four y0 y1 y2 y3) sign) (w y : ℕ) where
+  abbrev xs : List ℤ
+  xs = four x0 x1 x2 x3
+
+  abbrev ys : List ℤ
+  ys = four y0 y1 y2 y3
+
+  pub four-edges : (a b c d e f i j left right : ℕ) → Kept (Inner sign (at x0 y0) (at x1 y1) (pos y)) 0 w a b → Kept (Inner sign (at x1 y1) (at x2 y2) (pos y)) a b c d
+      → Kept (Inner sign (at x2 y2) (at x3 y3) (pos y)) c d e f → Kept (Inner sign (at x3 y3) (at x0 y0) (pos y)) e f i j → Closed i j left right
+      → RowRun xs ys w y left right × (left ≤ w) × (right ≤ w)
+  four-edges a b c d e f i j left right p q r s t =
+      let m : j ≤ w = omega (arith, p .within, q .within, r .within, s .within) in
+      let n = closed-within w i j left right m t in (
+        row-closed xs ys refl sign g y w i j left right
+            (first-more xs ys refl sign (pos y) 3 0 w e f i j
+            (first-more xs ys refl sign (pos y) 2 0 w c d e f
+            (first-more xs ys refl sign (pos y) 1 0 w a b c d
+            (first-more xs ys refl sign (pos y) 0 0 w 0 w a b (first-none xs ys refl sign (pos y) 0 w) p) q) r) s) t,
+        n .0,
+        n .1,
+      )
