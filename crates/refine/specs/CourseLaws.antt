@@ -147,7 +147,7 @@ module _ (g : Scene Shape (List Float)) (size : ℕ) (q : List Shape → Aids �
       pub place-below : i < n → c .place < c .list .count
       place-below h = omega (arith, zip-place now-zipped (omega (arith, b-length)), kept-length c first aids (d .held .kept))
 
-    pub during-next : (b : Progress Shape) (i : ℕ) (c r : Course) (first first′ : List Float) (aids aids′ : Aids) → During b i c first aids → i < n → Stepped g size q c r first′ aids′
+    pub during-next : (b : Progress Shape) (i : ℕ) (c r : Course) (first : List Float) (aids : Aids) (first′ : List Float) (aids′ : Aids) → During b i c first aids → i < n → Stepped g size q c r first′ aids′
         → During b (i + 1) r first′ aids′
     during-next b i c r first aids first′ aids′ d h s = record {
       held = s .held;

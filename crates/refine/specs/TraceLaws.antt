@@ -438,7 +438,7 @@ module _ (w h y : ℕ) (z : Sized w h) (below : y < h) (s : Shape) (old : List F
   unfolding paintedOn
   row-painted = record {
     row = λ i a k. rowed-number i (in-picture i k) ∙ ap (λ (t : Bool). cond t (mixed brush (i % 3) (getD old i nan)) (getD old i nan)) (by-test i a k) ∙ sym (rule-number i (in-picture i k));
-    above = λ i a k. spared i (omega (arith, in-picture i (omega (arith, row-more))))  (not-before runs y (y + 1) (i / 3 % w) (i / 3 / w) (row-low i y k));
+    above = λ i a k. spared i (omega (arith, in-picture i (omega (arith, row-more)))) (not-before runs y (y + 1) (i / 3 % w) (i / 3 / w) (row-low i y k));
     below = λ i a k. spared i k (not-yet runs y (y + 1) (i / 3 % w) (i / 3 / w) (row-high i (y + 1) a));
   }
     where
