@@ -55,8 +55,17 @@ fn summed(picture: &[f32], opacities: impl Iterator<Item = f32>) -> u64 {
     opacities.fold(sum, |s, x| taken(s, x.to_bits() as u64))
 }
 
-/// Rejected: the target is the list drawn, so that nearly every exchange is worse. Mixed: a target of its own.
-fn entry(name: &'static str, w: usize, h: usize, passes: usize, rejected: bool, part: i64) -> Entry {
+/// What the target is. The list drawn: nearly every exchange is worse, and since the total is 0, it is so from the first row on. The list
+/// drawn, with noise: the same, but a trial's sum must be followed. Other shapes: candidates are taken too.
+#[derive(PartialEq)]
+enum Aim {
+    List,
+    Near,
+    Others,
+}
+
+fn entry(name: &'static str, w: usize, h: usize, passes: usize, aim: Aim, part: i64) -> Entry {
+    let rejected = aim != Aim::Others;
     let mut d = Draw::named(7, name);
     let list: Vec<Shape> = (0..64).map(|_| shape(&mut d, w as i64, h as i64, part)).collect();
     let wanted: Vec<Shape> = (0..64).map(|_| shape(&mut d, w as i64, h as i64, part)).collect();
@@ -64,6 +73,11 @@ fn entry(name: &'static str, w: usize, h: usize, passes: usize, rejected: bool, 
     let mut target = probe::filled_canvas(background, h as u32, w as u32);
     for s in if rejected { &list } else { &wanted } {
         apply(&mut target, s, w as i32, h as i32);
+    }
+    if aim == Aim::Near {
+        for x in target.iter_mut() {
+            *x = (*x + 0.2 * (d.unit() - 0.5)).clamp(0.0, 1.0);
+        }
     }
     let offers: Vec<Shape> = (0..1024)
         .map(|i| if rejected { shape(&mut d, w as i64, h as i64, part) } else if i % 2 == 0 { wanted[d.below(64) as usize].clone() } else { shape(&mut d, w as i64, h as i64, part) })
@@ -115,13 +129,17 @@ fn entry(name: &'static str, w: usize, h: usize, passes: usize, rejected: bool, 
 /// Shapes reach up to a tenth, or up to half of the picture's longer side from their middle.
 pub fn entries() -> Vec<Entry> {
     vec![
-        entry("refine, rejected, small, 32 by 24, a trial", 32, 24, 2, true, 10),
-        entry("refine, rejected, large, 32 by 24, a trial", 32, 24, 2, true, 2),
-        entry("refine, mixed, small, 32 by 24, a trial", 32, 24, 4, false, 10),
-        entry("refine, mixed, large, 32 by 24, a trial", 32, 24, 4, false, 2),
-        entry("refine, rejected, small, 256 by 256, a trial", 256, 256, 1, true, 10),
-        entry("refine, rejected, large, 256 by 256, a trial", 256, 256, 1, true, 2),
-        entry("refine, mixed, small, 256 by 256, a trial", 256, 256, 1, false, 10),
-        entry("refine, mixed, large, 256 by 256, a trial", 256, 256, 1, false, 2),
+        entry("refine, rejected, small, 32 by 24, a trial", 32, 24, 2, Aim::List, 10),
+        entry("refine, rejected, large, 32 by 24, a trial", 32, 24, 2, Aim::List, 2),
+        entry("refine, rejected, small, noise, 32 by 24, a trial", 32, 24, 2, Aim::Near, 10),
+        entry("refine, rejected, large, noise, 32 by 24, a trial", 32, 24, 2, Aim::Near, 2),
+        entry("refine, mixed, small, 32 by 24, a trial", 32, 24, 4, Aim::Others, 10),
+        entry("refine, mixed, large, 32 by 24, a trial", 32, 24, 4, Aim::Others, 2),
+        entry("refine, rejected, small, 256 by 256, a trial", 256, 256, 1, Aim::List, 10),
+        entry("refine, rejected, large, 256 by 256, a trial", 256, 256, 1, Aim::List, 2),
+        entry("refine, rejected, small, noise, 256 by 256, a trial", 256, 256, 1, Aim::Near, 10),
+        entry("refine, rejected, large, noise, 256 by 256, a trial", 256, 256, 1, Aim::Near, 2),
+        entry("refine, mixed, small, 256 by 256, a trial", 256, 256, 1, Aim::Others, 10),
+        entry("refine, mixed, large, 256 by 256, a trial", 256, 256, 1, Aim::Others, 2),
     ]
 }

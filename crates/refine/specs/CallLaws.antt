@@ -23,10 +23,9 @@ use Rattle.shapes.specs.Lists.{listed, shapeIn, offered}
 use Rattle.shapes.specs.Ranges.{fits, rangesOf, both, shapesIn}
 use Rattle.shapes.specs.RangeLaws.{both-append, shapes-more, offered-at, offered-past, fits-offered}
 use Rattle.refine.specs.declared.Course.{Course}
-use Rattle.refine.specs.declared.Sums.{Sums}
 use Rattle.refine.specs.Refinement.{Scene, Progress, drawn, refined}
 use Rattle.refine.specs.Tests.{lookedAt}
-use Rattle.refine.specs.Courses.{Targeted, progressOf, untried, restarted, Kept, CandidateFits, Ready}
+use Rattle.refine.specs.Courses.{Targeted, progressOf, untried, restarted, Aids, Aided, Kept, CandidateFits, Ready}
 use Rattle.refine.specs.CourseLaws.{During, Between, now-zipped, place-below, between-start, between-last, between-more, listed-length}
 
 -- ---- the candidates looked at, one after another
@@ -70,57 +69,61 @@ pub offer-fits : (l : List (Option Shape)) (k : ℕ) (o : Option Shape) → T (e
 offer-fits l k none h e = tt
 offer-fits l k (some x) h e = fits-offered l k x h e
 
-module _ (g : Scene Shape (List Float)) (size : ℕ) (q : List Float → Sums → Type 0) where
+module _ (g : Scene Shape (List Float)) (size : ℕ) (q : List Shape → Aids → Type 0) where
   -- ---- before the first pass
-  pub started : (list : Shapes) (first second : List Float) (p limit : ℕ) (c : Course) → c ≡ untried list (g .total (drawn g (listed list))) (c .sums) → q (drawn g (listed list)) (c .sums) → list .count ≤ 64 → length (list .items) ≡ 64
-      → T (every fits (listed list)) → length first ≡ size → length second ≡ size → p ≤ 16 → limit ≡ cond (ltb (list .count) 2) 0 p
-      → Between g size q (list .count) (refined g p (listed (c .list))) limit c first second
-  started list first second p limit c e u few long fitting first-size second-size p-few l =
-      let start = untried list (g .total (drawn g (listed list))) (c .sums) in
-      let kept : Kept g size q start first second = record { few = few; long = long; fitting = fitting; total = refl; sums = u; first-long = first-size; second-long = second-size } in
-      subst (λ (a : Course). Between g size q (list .count) (refined g p (listed (a .list))) limit a first second) (sym e) (between-start g size q (list .count) start first second kept refl refl p p-few limit l)
+  pub started : (list : Shapes) (first : List Float) (aids : Aids) (p limit : ℕ) (c : Course) → c ≡ untried list (g .total (drawn g (listed list))) → q (listed list) aids → list .count ≤ 64 → length (list .items) ≡ 64
+      → T (every fits (listed list)) → length first ≡ size → p ≤ 16 → limit ≡ cond (ltb (list .count) 2) 0 p
+      → Between g size q (list .count) (refined g p (listed (c .list))) limit c first aids
+  started list first aids p limit c e u few long fitting first-size p-few l =
+      let start = untried list (g .total (drawn g (listed list))) in
+      let kept : Kept g size q start first aids = record { few = few; long = long; fitting = fitting; total = refl; served = u; first-long = first-size } in
+      subst (λ (a : Course). Between g size q (list .count) (refined g p (listed (a .list))) limit a first aids) (sym e) (between-start g size q (list .count) start first aids kept refl refl p p-few limit l)
 
-  module _ (n : ℕ) (end : Progress Shape) (limit : ℕ) (c : Course) (first second : List Float) (s : Between g size q n end limit c first second) (h : c .passes < limit) (i : ℕ) (r : Course) (first′ second′ : List Float) (d : During g size q n (progressOf (restarted c)) i r first′ second′) where
+  module _ (n : ℕ) (end : Progress Shape) (limit : ℕ) (c : Course) (first : List Float) (aids : Aids) (s : Between g size q n end limit c first aids) (h : c .passes < limit) (i : ℕ) (r : Course) (first′ : List Float) (aids′ : Aids) (d : During g size q n (progressOf (restarted c)) i r first′ aids′) where
     -- ---- a trial of the pass
     long : length (listed (c .list)) ≡ n
     long = listed-length (c .list) (s .kept .few) (s .kept .long) ∙ s .count
 
     pub trial-below : i < n → r .trials < 1024
-    trial-below l = omega (arith, now-zipped g size q n (progressOf (restarted c)) refl long i r first′ second′ d .trials, s .few-trials, s .few, s .count, s .kept .few)
+    trial-below l = omega (arith, now-zipped g size q n (progressOf (restarted c)) refl long i r first′ aids′ d .trials, s .few-trials, s .few, s .count, s .kept .few)
 
-    pub ready : (w h : ℕ) (target : List Float) (what : Option Shape) → size ≡ h * w * 3 → i < n → Sized w h → Targeted w h target → CandidateFits what → Ready w h target r what first′ second′
-    ready w h target what e l sized aim f =
-        let z = now-zipped g size q n (progressOf (restarted c)) refl long i r first′ second′ d in
+    pub ready : (w h : ℕ) (target : List Float) (what : Option Shape) (background : List Float) → size ≡ h * w * 3 → i < n → Sized w h → Targeted w h target → CandidateFits what → Aided w h target background (listed (r .list)) aids′
+        → Ready w h target r what first′ (aids′ .second) (aids′ .sums) (aids′ .runs) (aids′ .paints)
+    ready w h target what background e l sized aim f u =
+        let z = now-zipped g size q n (progressOf (restarted c)) refl long i r first′ aids′ d in
         record {
           list = record { sized = sized; few = d .held .kept .few; fitting = d .held .kept .fitting };
           candidate = f;
           aim = aim;
-          place = place-below g size q n (progressOf (restarted c)) refl long i r first′ second′ d l;
+          place = place-below g size q n (progressOf (restarted c)) refl long i r first′ aids′ d l;
           behind = d .held .behind;
           few-trials = trial-below l;
           few-taken = omega (arith, z .trials, z .acceptances, z .tried, s .few-taken);
           first-long = d .held .kept .first-long ∙ e;
-          second-long = d .held .kept .second-long ∙ e;
+          second-long = u .second-long;
           inside = d .held .inside;
+          second-inside = u .inside;
+          sums-long = u .sums-long;
+          traced = u .traced;
         }
 
     -- ---- the end of the pass
-    pub onward : (limit′ : ℕ) → n ≤ i → limit′ ≡ cond (eqb (r .acceptances) (c .acceptances)) (r .passes) limit → Between g size q n end limit′ r first′ second′
+    pub onward : (limit′ : ℕ) → n ≤ i → limit′ ≡ cond (eqb (r .acceptances) (c .acceptances)) (r .passes) limit → Between g size q n end limit′ r first′ aids′
     onward limit′ all e = by (eqb (r .acceptances) (c .acceptances)) refl
       where
-        by : (b : Bool) → eqb (r .acceptances) (c .acceptances) ≡ b → Between g size q n end limit′ r first′ second′
+        by : (b : Bool) → eqb (r .acceptances) (c .acceptances) ≡ b → Between g size q n end limit′ r first′ aids′
         by true t =
-            subst (λ (l : ℕ). Between g size q n end l r first′ second′) (sym (e ∙ ap (λ (b : Bool). cond b (r .passes) limit) t))
-            (between-last g size q n end limit c first second s h i r first′ second′ d all (eqb-true (r .acceptances) (c .acceptances) t))
+            subst (λ (l : ℕ). Between g size q n end l r first′ aids′) (sym (e ∙ ap (λ (b : Bool). cond b (r .passes) limit) t))
+            (between-last g size q n end limit c first aids s h i r first′ aids′ d all (eqb-true (r .acceptances) (c .acceptances) t))
         by false t =
-            subst (λ (l : ℕ). Between g size q n end l r first′ second′) (sym (e ∙ ap (λ (b : Bool). cond b (r .passes) limit) t))
-            (between-more g size q n end limit c first second s h i r first′ second′ d all (eqb-false (r .acceptances) (c .acceptances) t))
+            subst (λ (l : ℕ). Between g size q n end l r first′ aids′) (sym (e ∙ ap (λ (b : Bool). cond b (r .passes) limit) t))
+            (between-more g size q n end limit c first aids s h i r first′ aids′ d all (eqb-false (r .acceptances) (c .acceptances) t))
 
     pub fewer : (limit′ : ℕ) → limit′ ≡ cond (eqb (r .acceptances) (c .acceptances)) (r .passes) limit → limit′ - r .passes < limit - c .passes
     fewer limit′ e = by (eqb (r .acceptances) (c .acceptances)) refl
       where
         more : r .passes ≡ c .passes + 1
-        more = now-zipped g size q n (progressOf (restarted c)) refl long i r first′ second′ d .passes
+        more = now-zipped g size q n (progressOf (restarted c)) refl long i r first′ aids′ d .passes
 
         by : (b : Bool) → eqb (r .acceptances) (c .acceptances) ≡ b → limit′ - r .passes < limit - c .passes
         by true t = omega (arith, e ∙ ap (λ (b : Bool). cond b (r .passes) limit) t)

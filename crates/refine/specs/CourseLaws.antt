@@ -22,9 +22,8 @@ use Rattle.shapes.specs.declared.Shapes.{Shapes}
 use Rattle.shapes.specs.Lists.{listed, ExchangeSays}
 use Rattle.shapes.specs.Ranges.{fits}
 use Rattle.refine.specs.declared.Course.{Course}
-use Rattle.refine.specs.declared.Sums.{Sums}
 use Rattle.refine.specs.Refinement.{Scene, Progress, paintedOn, drawn, lower, noCandidate, notLower, accepted, after, next, nexts, begun, pass, passes, nothingYet, refined}
-use Rattle.refine.specs.Courses.{progressOf, risen, taken, restarted, Kept, Held, Stepped}
+use Rattle.refine.specs.Courses.{progressOf, risen, taken, restarted, Aids, Kept, Held, Stepped}
 use Rattle.refine.specs.RefinementLaws.{nexts-more, Zipped, zipped, zip-place, passes-last, passes-more, refined-short, refined-long, drawn-exchanged, next-none, next-kept, next-taken}
 
 every-without : (p : Shape → Bool) (j : ℕ) (l : List Shape) (x : Shape) → T (every p l) → T (p x) → T (every p (without j l ++ (x ∷ [])))
@@ -37,14 +36,14 @@ every-without p j l x h k =
 pub listed-length : (list : Shapes) → list .count ≤ 64 → length (list .items) ≡ 64 → length (listed list) ≡ list .count
 listed-length list few long = length-take-le (list .count) (list .items) (omega arith)
 
-module _ (g : Scene Shape (List Float)) (size : ℕ) (q : List Float → Sums → Type 0) where
-  kept-length : (c : Course) (first second : List Float) → Kept g size q c first second → length (listed (c .list)) ≡ c .list .count
-  kept-length c first second k = listed-length (c .list) (k .few) (k .long)
+module _ (g : Scene Shape (List Float)) (size : ℕ) (q : List Shape → Aids → Type 0) where
+  kept-length : (c : Course) (first : List Float) (aids : Aids) → Kept g size q c first aids → length (listed (c .list)) ≡ c .list .count
+  kept-length c first aids k = listed-length (c .list) (k .few) (k .long)
 
   -- ---- one trial
-  module _ (c : Course) (first second : List Float) (d : Held g size q c first second) where
+  module _ (c : Course) (first : List Float) (aids : Aids) (d : Held g size q c first aids) where
     -- without a candidate
-    pub stepped-none : g .candidate (c .trials) ≡ none → Stepped g size q c (risen c (c .made)) first second
+    pub stepped-none : g .candidate (c .trials) ≡ none → Stepped g size q c (risen c (c .made)) first aids
     unfolding after
     stepped-none e = record {
       held = record {
@@ -53,9 +52,8 @@ module _ (g : Scene Shape (List Float)) (size : ℕ) (q : List Float → Sums �
           long = d .kept .long;
           fitting = d .kept .fitting;
           total = d .kept .total;
-          sums = d .kept .sums;
+          served = d .kept .served;
           first-long = d .kept .first-long;
-          second-long = d .kept .second-long;
         };
         behind = omega (arith, d .behind);
         some-drawn = d .some-drawn;
@@ -65,22 +63,21 @@ module _ (g : Scene Shape (List Float)) (size : ℕ) (q : List Float → Sums �
       at = sym (next-none g (progressOf c) e);
     }
 
-    module _ (x : Shape) (new : Float) (first′ second′ : List Float) (o : g .candidate (c .trials) ≡ some x)
+    module _ (x : Shape) (new : Float) (first′ : List Float) (aids′ : Aids) (o : g .candidate (c .trials) ≡ some x)
         (e : new ≡ g .total (g .paint x (drawn g (without (c .place) (listed (c .list)))))) (f : first′ ≡ drawn g (take (c .place) (listed (c .list))))
-        (first-size : length first′ ≡ size) (second-size : length second′ ≡ size) (inside : T (allWithin first′)) where
+        (first-size : length first′ ≡ size) (inside : T (allWithin first′)) where
       -- a candidate that is not lower by enough
-      pub stepped-kept : lower new (c .old) ≡ false → Stepped g size q c (risen c (c .place)) first′ second′
+      pub stepped-kept : q (listed (c .list)) aids′ → lower new (c .old) ≡ false → Stepped g size q c (risen c (c .place)) first′ aids′
       unfolding after
-      stepped-kept l = record {
+      stepped-kept u l = record {
         held = record {
           kept = record {
             few = d .kept .few;
             long = d .kept .long;
             fitting = d .kept .fitting;
             total = d .kept .total;
-            sums = d .kept .sums;
+            served = u;
             first-long = first-size;
-            second-long = second-size;
           };
           behind = omega arith;
           some-drawn = f;
@@ -91,13 +88,13 @@ module _ (g : Scene Shape (List Float)) (size : ℕ) (q : List Float → Sums �
       }
 
       -- an accepted one
-      pub stepped-taken : (list′ : Shapes) (sums′ : Sums) → q (g .paint x (drawn g (without (c .place) (listed (c .list))))) sums′ → lower new (c .old) ≡ true → T (fits x) → c .place < c .list .count → ExchangeSays (c .list) (c .place) x list′
-          → Stepped g size q c (taken c list′ new sums′) first′ second′
+      pub stepped-taken : (list′ : Shapes) → q (listed list′) aids′ → lower new (c .old) ≡ true → T (fits x) → c .place < c .list .count → ExchangeSays (c .list) (c .place) x list′
+          → Stepped g size q c (taken c list′ new) first′ aids′
       unfolding after
-      stepped-taken list′ sums′ u l f-x h s =
+      stepped-taken list′ u l f-x h s =
           let j = c .place in
           let m = listed (c .list) in
-          let below : j < length m = omega (arith, kept-length c first second (d .kept)) in
+          let below : j < length m = omega (arith, kept-length c first aids (d .kept)) in
           record {
             held = record {
               kept = record {
@@ -105,9 +102,8 @@ module _ (g : Scene Shape (List Float)) (size : ℕ) (q : List Float → Sums �
                 long = s .1;
                 fitting = subst (λ (l : List Shape). T (every fits l)) (sym (s .2)) (every-without fits j m x (d .kept .fitting) f-x);
                 total = e ∙ ap (g .total) (sym (drawn-exchanged g m j x) ∙ ap (drawn g) (sym (s .2)));
-                sums = subst (λ (p : List Float). q p sums′) (sym (drawn-exchanged g m j x) ∙ ap (drawn g) (sym (s .2))) u;
+                served = u;
                 first-long = first-size;
-                second-long = second-size;
               };
               behind = omega arith;
               some-drawn =
@@ -128,15 +124,15 @@ module _ (g : Scene Shape (List Float)) (size : ℕ) (q : List Float → Sums �
   -- ---- the trials of a pass over n shapes
   module _ (n : ℕ) where
     -- after i trials of the pass that began at b
-    pub record During (b : Progress Shape) (i : ℕ) (c : Course) (first second : List Float) : Type 0 where
-      pub held : Held g size q c first second
+    pub record During (b : Progress Shape) (i : ℕ) (c : Course) (first : List Float) (aids : Aids) : Type 0 where
+      pub held : Held g size q c first aids
       pub count : c .list .count ≡ n
       pub inside : i ≤ n
       pub at : progressOf c ≡ nexts g i b
 
     -- between passes, of which `limit` may be made
-    pub record Between (end : Progress Shape) (limit : ℕ) (c : Course) (first second : List Float) : Type 0 where
-      pub kept : Kept g size q c first second
+    pub record Between (end : Progress Shape) (limit : ℕ) (c : Course) (first : List Float) (aids : Aids) : Type 0 where
+      pub kept : Kept g size q c first aids
       pub count : c .list .count ≡ n
       pub left : c .passes ≤ limit
       pub few : limit ≤ 16
@@ -144,16 +140,16 @@ module _ (g : Scene Shape (List Float)) (size : ℕ) (q : List Float → Sums �
       pub few-taken : c .acceptances ≤ c .trials
       pub rest : passes g (limit - c .passes) (progressOf c) ≡ end
 
-    module _ (b : Progress Shape) (b-place : b .place ≡ 0) (b-length : length (b .list) ≡ n) (i : ℕ) (c : Course) (first second : List Float) (d : During b i c first second) where
+    module _ (b : Progress Shape) (b-place : b .place ≡ 0) (b-length : length (b .list) ≡ n) (i : ℕ) (c : Course) (first : List Float) (aids : Aids) (d : During b i c first aids) where
       pub now-zipped : Zipped b i (progressOf c)
       now-zipped = subst (λ (a : Progress Shape). Zipped b i a) (sym (d .at)) (zipped g b b-place i (omega (arith, b-length, d .inside)))
 
       pub place-below : i < n → c .place < c .list .count
-      place-below h = omega (arith, zip-place now-zipped (omega (arith, b-length)), kept-length c first second (d .held .kept))
+      place-below h = omega (arith, zip-place now-zipped (omega (arith, b-length)), kept-length c first aids (d .held .kept))
 
-    pub during-next : (b : Progress Shape) (i : ℕ) (c r : Course) (first second first′ second′ : List Float) → During b i c first second → i < n → Stepped g size q c r first′ second′
-        → During b (i + 1) r first′ second′
-    during-next b i c r first second first′ second′ d h s = record {
+    pub during-next : (b : Progress Shape) (i : ℕ) (c r : Course) (first : List Float) (aids : Aids) (first′ : List Float) (aids′ : Aids) → During b i c first aids → i < n → Stepped g size q c r first′ aids′
+        → During b (i + 1) r first′ aids′
+    during-next b i c r first aids first′ aids′ d h s = record {
       held = s .held;
       count = s .same-count ∙ d .count;
       inside = omega arith;
@@ -161,7 +157,7 @@ module _ (g : Scene Shape (List Float)) (size : ℕ) (q : List Float → Sums �
     }
 
     -- ---- passes
-    module _ (c : Course) (first second : List Float) (k : Kept g size q c first second) (counts : c .list .count ≡ n) (none-yet : progressOf c ≡ nothingYet (listed (c .list))) (p : ℕ) (p-few : p ≤ 16) where
+    module _ (c : Course) (first : List Float) (aids : Aids) (k : Kept g size q c first aids) (counts : c .list .count ≡ n) (none-yet : progressOf c ≡ nothingYet (listed (c .list))) (p : ℕ) (p-few : p ≤ 16) where
       no-passes : c .passes ≡ 0
       no-passes = ap (λ (a : Progress Shape). a .passes) none-yet
 
@@ -171,7 +167,7 @@ module _ (g : Scene Shape (List Float)) (size : ℕ) (q : List Float → Sums �
       no-acceptances : c .acceptances ≡ 0
       no-acceptances = ap (λ (a : Progress Shape). a .acceptances) none-yet
 
-      nearly : (limit m : ℕ) → limit ≡ m → m ≤ 16 → passes g m (nothingYet (listed (c .list))) ≡ refined g p (listed (c .list)) → Between (refined g p (listed (c .list))) limit c first second
+      nearly : (limit m : ℕ) → limit ≡ m → m ≤ 16 → passes g m (nothingYet (listed (c .list))) ≡ refined g p (listed (c .list)) → Between (refined g p (listed (c .list))) limit c first aids
       nearly limit m e few r = record {
         kept = k;
         count = counts;
@@ -186,21 +182,21 @@ module _ (g : Scene Shape (List Float)) (size : ℕ) (q : List Float → Sums �
       }
 
       -- with fewer than two shapes no pass is made
-      pub between-start : (limit : ℕ) → limit ≡ cond (ltb n 2) 0 p → Between (refined g p (listed (c .list))) limit c first second
+      pub between-start : (limit : ℕ) → limit ≡ cond (ltb n 2) 0 p → Between (refined g p (listed (c .list))) limit c first aids
       between-start limit e = by (ltb n 2) refl
         where
-          by : (b : Bool) → ltb n 2 ≡ b → Between (refined g p (listed (c .list))) limit c first second
+          by : (b : Bool) → ltb n 2 ≡ b → Between (refined g p (listed (c .list))) limit c first aids
           by true t =
               nearly limit 0 (e ∙ ap (λ (b : Bool). cond b 0 p) t) (omega arith)
-              (sym (refined-short g p (listed (c .list)) (omega (arith, ltb-true n 2 t, kept-length c first second k))))
+              (sym (refined-short g p (listed (c .list)) (omega (arith, ltb-true n 2 t, kept-length c first aids k))))
           by false t =
               nearly limit p (e ∙ ap (λ (b : Bool). cond b 0 p) t) p-few
-              (sym (refined-long g p (listed (c .list)) (omega (arith, ltb-false n 2 t, kept-length c first second k))))
+              (sym (refined-long g p (listed (c .list)) (omega (arith, ltb-false n 2 t, kept-length c first aids k))))
 
-    module _ (end : Progress Shape) (limit : ℕ) (c : Course) (first second : List Float) (s : Between end limit c first second) (h : c .passes < limit) where
+    module _ (end : Progress Shape) (limit : ℕ) (c : Course) (first : List Float) (aids : Aids) (s : Between end limit c first aids) (h : c .passes < limit) where
       -- a pass begins over the background
       pub during-start : (first′ : List Float) → first′ ≡ g .background → length first′ ≡ size → T (allWithin first′)
-          → During (progressOf (restarted c)) 0 (restarted c) first′ second
+          → During (progressOf (restarted c)) 0 (restarted c) first′ aids
       unfolding nexts paintedOn
       during-start first′ e l i = record {
         held = record {
@@ -209,9 +205,8 @@ module _ (g : Scene Shape (List Float)) (size : ℕ) (q : List Float → Sums �
             long = s .kept .long;
             fitting = s .kept .fitting;
             total = s .kept .total;
-            sums = s .kept .sums;
+            served = s .kept .served;
             first-long = l;
-            second-long = s .kept .second-long;
           };
           behind = omega arith;
           some-drawn = e;
@@ -223,18 +218,18 @@ module _ (g : Scene Shape (List Float)) (size : ℕ) (q : List Float → Sums �
       }
 
       -- and ends
-      module _ (i : ℕ) (r : Course) (first′ second′ : List Float) (d : During (progressOf (restarted c)) i r first′ second′) (all : n ≤ i) where
+      module _ (i : ℕ) (r : Course) (first′ : List Float) (aids′ : Aids) (d : During (progressOf (restarted c)) i r first′ aids′) (all : n ≤ i) where
         one-pass : progressOf r ≡ pass g (progressOf c)
         unfolding pass begun
-        one-pass = d .at ∙ ap (λ (m : ℕ). nexts g m (progressOf (restarted c))) {x = i} {y = length (listed (c .list))} (omega (arith, d .inside, s .count, kept-length c first second (s .kept)))
+        one-pass = d .at ∙ ap (λ (m : ℕ). nexts g m (progressOf (restarted c))) {x = i} {y = length (listed (c .list))} (omega (arith, d .inside, s .count, kept-length c first aids (s .kept)))
 
         counted : Zipped (progressOf (restarted c)) i (progressOf r)
-        counted = now-zipped (progressOf (restarted c)) refl (kept-length c first second (s .kept) ∙ s .count) i r first′ second′ d
+        counted = now-zipped (progressOf (restarted c)) refl (kept-length c first aids (s .kept) ∙ s .count) i r first′ aids′ d
 
         one-less : limit - c .passes ≡ suc (limit - r .passes)
         one-less = omega (arith, counted .passes)
 
-        ended : (l : ℕ) → r .passes ≤ l → l ≤ limit → passes g (l - r .passes) (progressOf r) ≡ end → Between end l r first′ second′
+        ended : (l : ℕ) → r .passes ≤ l → l ≤ limit → passes g (l - r .passes) (progressOf r) ≡ end → Between end l r first′ aids′
         ended l p q e = record {
           kept = d .held .kept;
           count = d .count;
@@ -245,7 +240,7 @@ module _ (g : Scene Shape (List Float)) (size : ℕ) (q : List Float → Sums �
           rest = e;
         }
 
-        pub between-last : r .acceptances ≡ c .acceptances → Between end (r .passes) r first′ second′
+        pub between-last : r .acceptances ≡ c .acceptances → Between end (r .passes) r first′ aids′
         unfolding passes
         between-last e =
             ended (r .passes) (omega arith) (omega (arith, counted .passes))
@@ -255,7 +250,7 @@ module _ (g : Scene Shape (List Float)) (size : ℕ) (q : List Float → Sums �
             ∙ ap (λ (m : ℕ). passes g m (progressOf c)) (sym one-less)
             ∙ s .rest)
 
-        pub between-more : (r .acceptances ≡ c .acceptances → ⊥) → Between end limit r first′ second′
+        pub between-more : (r .acceptances ≡ c .acceptances → ⊥) → Between end limit r first′ aids′
         between-more e =
             ended limit (omega (arith, counted .passes)) (omega arith)
             (ap (passes g (limit - r .passes)) one-pass
@@ -264,6 +259,6 @@ module _ (g : Scene Shape (List Float)) (size : ℕ) (q : List Float → Sums �
             ∙ s .rest)
 
     -- ---- the end
-    pub between-end : (end : Progress Shape) (limit : ℕ) (c : Course) (first second : List Float) (s : Between end limit c first second) → limit ≤ c .passes → progressOf c ≡ end
+    pub between-end : (end : Progress Shape) (limit : ℕ) (c : Course) (first : List Float) (aids : Aids) (s : Between end limit c first aids) → limit ≤ c .passes → progressOf c ≡ end
     unfolding passes
-    between-end end limit c first second s h = ap (λ (m : ℕ). passes g m (progressOf c)) {x = 0} {y = limit - c .passes} (omega arith) ∙ s .rest
+    between-end end limit c first aids s h = ap (λ (m : ℕ). passes g m (progressOf c)) {x = 0} {y = limit - c .passes} (omega arith) ∙ s .rest

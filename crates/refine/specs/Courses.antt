@@ -20,10 +20,10 @@ use Rattle.shapes.specs.declared.Shapes.{Shapes}
 use Rattle.shapes.specs.Lists.{listed}
 use Rattle.shapes.specs.Ranges.{fits}
 use Rattle.refine.specs.declared.Course.{Course}
-use Rattle.refine.specs.declared.Sums.{Sums}
 use Rattle.refine.specs.declared.Refined.{Refined}
 use Rattle.refine.specs.Refinement.{Scene, Progress, paintedOn, drawn, lower, next}
 use Rattle.refine.specs.Scenes.{shapePainted}
+use Rattle.refine.specs.Traces.{Traced}
 
 -- a list whose shapes can be painted: the tests were passed
 pub record Drawable (w h : ℕ) (list : Shapes) : Type 0 where
@@ -40,13 +40,6 @@ pub record Targeted (w h : ℕ) (target : List Float) : Type 0 where
 abbrev pub SummedTo : ℕ → ℕ → List Float → List Float → List Float → Type 0
 SummedTo w n target picture sums = (y : ℕ) → y ≤ n → getD sums y nan ≡ totalOn target picture nought 0 (y * w * 3)
 
-abbrev pub summing : ℕ → ℕ → List Float → List Float → Sums → Type 0
-summing w h target picture s = SummedTo w h target picture (s .rows)
-
--- pictures that are the same in the rows from top up to bottom, that one left out
-abbrev pub SameRows : ℕ → ℕ → ℕ → List Float → List Float → Type 0
-SameRows w top bottom p q = (i : ℕ) → top * w * 3 ≤ i → i < bottom * w * 3 → getD p i nan ≡ getD q i nan
-
 -- rows of a picture, above and below which neither of two shapes reaches any
 pub record Spanned (w h : ℕ) (s x : Shape) (rows : Rows) : Type 0 where
   pub ordered : rows .top ≤ rows .bottom
@@ -56,59 +49,78 @@ pub record Spanned (w h : ℕ) (s x : Shape) (rows : Rows) : Type 0 where
   pub below-s : rows .bottom < h → reachRows (s .kind) w h .bottom ≤ rows .bottom
   pub below-x : rows .bottom < h → reachRows (x .kind) w h .bottom ≤ rows .bottom
 
--- a trial's picture: the shapes after j on a picture of those before it, and the candidate
-abbrev pub tried : ℕ → ℕ → Shapes → ℕ → Shape → List Float → List Float
-tried w h list j x first = shapePainted w h x (paintedOn (shapePainted w h) first (slice (j + 1) (list .count) (list .items)))
+-- pictures that are the same above some rows, and below them
+pub record Apart (w h top bottom : ℕ) (p q : List Float) : Type 0 where
+  pub above : (i : ℕ) → i < top * w * 3 → getD p i nan ≡ getD q i nan
+  pub below : (i : ℕ) → bottom * w * 3 ≤ i → i < h * w * 3 → getD p i nan ≡ getD q i nan
 
--- what is answered of a trial's picture, against the sums of the list: by its last number the total is judged, and if it is lower, these are the picture's sums
-pub record Judged (w h : ℕ) (target picture : List Float) (old new : Sums) : Type 0 where
-  pub verdict : lower (getD (new .rows) h nan) (getD (old .rows) h nan) ≡ lower (totalOf target picture) (getD (old .rows) h nan)
-  pub sums : lower (getD (new .rows) h nan) (getD (old .rows) h nan) ≡ true → summing w h target picture new
+-- what is answered of a trial's picture, against the sums of the list: by the number the total is judged, and if it is lower, it is the total, and these are the picture's sums
+pub record Judged (w h : ℕ) (target picture old new : List Float) (r : Float) : Type 0 where
+  pub verdict : lower r (getD old h nan) ≡ lower (totalOf target picture) (getD old h nan)
+  pub total : lower r (getD old h nan) ≡ true → r ≡ totalOf target picture
+  pub sums : lower r (getD old h nan) ≡ true → SummedTo w h target picture new
 
 -- the program's numbers as the rule has them
 abbrev pub progressOf : Course → Progress Shape
 progressOf c = record { list = listed (c .list); place = c .place; passes = c .passes; trials = c .trials; acceptances = c .acceptances }
 
--- before the first trial, the total of the list being old, and its sums
-abbrev pub untried : Shapes → Float → Sums → Course
-untried list old sums = record { list = list; place = 0; passes = 0; trials = 0; acceptances = 0; made = 0; old = old; sums = sums }
+-- before the first trial, the total of the list being old
+abbrev pub untried : Shapes → Float → Course
+untried list old = record { list = list; place = 0; passes = 0; trials = 0; acceptances = 0; made = 0; old = old }
 
 -- a trial without an acceptance, but for the pictures
 abbrev pub risen : Course → ℕ → Course
-risen c made = record { list = c .list; place = c .place + 1; passes = c .passes; trials = c .trials + 1; acceptances = c .acceptances; made = made; old = c .old; sums = c .sums }
+risen c made = record { list = c .list; place = c .place + 1; passes = c .passes; trials = c .trials + 1; acceptances = c .acceptances; made = made; old = c .old }
 
--- and one with an acceptance, the list after it being list, its total new and its sums sums
-abbrev pub taken : Course → Shapes → Float → Sums → Course
-taken c list new sums = record { list = list; place = c .place; passes = c .passes; trials = c .trials + 1; acceptances = c .acceptances + 1; made = c .place; old = new; sums = sums }
+-- and one with an acceptance, the list after it being list, and its total new
+abbrev pub taken : Course → Shapes → Float → Course
+taken c list new = record { list = list; place = c .place; passes = c .passes; trials = c .trials + 1; acceptances = c .acceptances + 1; made = c .place; old = new }
 
 -- a pass begins
 abbrev pub restarted : Course → Course
-restarted c = record { list = c .list; place = 0; passes = c .passes + 1; trials = c .trials; acceptances = c .acceptances; made = 0; old = c .old; sums = c .sums }
+restarted c = record { list = c .list; place = 0; passes = c .passes + 1; trials = c .trials; acceptances = c .acceptances; made = 0; old = c .old }
 
 -- what is answered at the end
 abbrev pub answered : Course → Refined
 answered c = record { refusal = 0; shapes = c .list; passes = c .passes; trials = c .trials; acceptances = c .acceptances }
 
--- at any time: `old` is the total of the list drawn, and `sums` are its sums, whatever that means
-pub record Kept (g : Scene Shape (List Float)) (size : ℕ) (q : List Float → Sums → Type 0) (c : Course) (first second : List Float) : Type 0 where
+-- what is lent beside the first picture: the second, the sums of the list, and its table
+pub record Aids : Type 0 where
+  pub second : List Float
+  pub sums : List Float
+  pub runs : List ℕ
+  pub paints : List Float
+
+abbrev pub aidsOf : List Float → List Float → List ℕ → List Float → Aids
+aidsOf second sums runs paints = record { second = second; sums = sums; runs = runs; paints = paints }
+
+-- they serve a list over a background
+pub record Aided (w h : ℕ) (target background : List Float) (l : List Shape) (a : Aids) : Type 0 where
+  pub second-long : length (a .second) ≡ h * w * 3
+  pub inside : T (allWithin (a .second))
+  pub sums-long : length (a .sums) ≡ 257
+  pub sums : SummedTo w h target (paintedOn (shapePainted w h) background l) (a .sums)
+  pub traced : Traced w h l (a .runs) (a .paints)
+
+-- at any time: `old` is the total of the list drawn, and the aids serve the list, whatever that means
+pub record Kept (g : Scene Shape (List Float)) (size : ℕ) (q : List Shape → Aids → Type 0) (c : Course) (first : List Float) (aids : Aids) : Type 0 where
   pub few : c .list .count ≤ 64
   pub long : length (c .list .items) ≡ 64
   pub fitting : T (every fits (listed (c .list)))
   pub total : c .old ≡ g .total (drawn g (listed (c .list)))
-  pub sums : q (drawn g (listed (c .list))) (c .sums)
+  pub served : q (listed (c .list)) aids
   pub first-long : length first ≡ size
-  pub second-long : length second ≡ size
 
 -- during a pass: `first` has the first `made` shapes drawn, of those before j
-pub record Held (g : Scene Shape (List Float)) (size : ℕ) (q : List Float → Sums → Type 0) (c : Course) (first second : List Float) : Type 0 where
-  pub kept : Kept g size q c first second
+pub record Held (g : Scene Shape (List Float)) (size : ℕ) (q : List Shape → Aids → Type 0) (c : Course) (first : List Float) (aids : Aids) : Type 0 where
+  pub kept : Kept g size q c first aids
   pub behind : c .made ≤ c .place
   pub some-drawn : first ≡ drawn g (take (c .made) (listed (c .list)))
   pub inside : T (allWithin first)
 
 -- after a trial: the rule's next
-pub record Stepped (g : Scene Shape (List Float)) (size : ℕ) (q : List Float → Sums → Type 0) (c r : Course) (first second : List Float) : Type 0 where
-  pub held : Held g size q r first second
+pub record Stepped (g : Scene Shape (List Float)) (size : ℕ) (q : List Shape → Aids → Type 0) (c r : Course) (first : List Float) (aids : Aids) : Type 0 where
+  pub held : Held g size q r first aids
   pub same-count : r .list .count ≡ c .list .count
   pub at : progressOf r ≡ next g (progressOf c)
 
@@ -118,7 +130,7 @@ CandidateFits none = Unit {0}
 CandidateFits (some x) = T (fits x)
 
 -- what a trial rests on
-pub record Ready (w h : ℕ) (target : List Float) (c : Course) (what : Option Shape) (first second : List Float) : Type 0 where
+pub record Ready (w h : ℕ) (target : List Float) (c : Course) (what : Option Shape) (first second sums : List Float) (runs : List ℕ) (paints : List Float) : Type 0 where
   pub list : Drawable w h (c .list)
   pub candidate : CandidateFits what
   pub aim : Targeted w h target
@@ -129,3 +141,6 @@ pub record Ready (w h : ℕ) (target : List Float) (c : Course) (what : Option S
   pub first-long : length first ≡ h * w * 3
   pub second-long : length second ≡ h * w * 3
   pub inside : T (allWithin first)
+  pub second-inside : T (allWithin second)
+  pub sums-long : length sums ≡ 257
+  pub traced : Traced w h (listed (c .list)) runs paints

@@ -4,10 +4,13 @@ pub mod Scenes
 pub mod Tests
 pub mod Answers
 -- The forms in which it is proved.
+pub mod Traces
 pub mod Courses
 -- What follows.
 pub mod RefinementLaws
 pub mod PartLaws
+pub mod DrawingLaws
+pub mod TraceLaws
 pub mod RisingLaws
 pub mod SumLaws
 pub mod CourseLaws

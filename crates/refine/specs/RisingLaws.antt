@@ -78,7 +78,7 @@ highest nan = tt
 highest (inf t) = tt
 highest (fin t n d) = tt
 
-not-lt : (x y : Float) → T (le x y) → T (not (lt y x))
+pub not-lt : (x y : Float) → T (le x y) → T (not (lt y x))
 not-lt x y h = let n = le-numbers x y h in subst T (le-is x y (n .0) (n .1)) h
 
 -- M / E ≤ N / D, and K / G added to both
@@ -160,6 +160,11 @@ unfolding before fits
 before-fits term zero = tt
 before-fits term (suc n) = add-fits binary64 (before nought _⊕_ term n) (term n)
 
+fits-on : (term : ℕ → Float) (s : Float) → T (fits binary64 s) → (n : ℕ) → T (fits binary64 (before s _⊕_ term n))
+unfolding before
+fits-on term s i zero = i
+fits-on term s i (suc n) = add-fits binary64 (before s _⊕_ term n) (term n)
+
 -- ---- not lower
 first-number : (f : Format) (x z : Float) → T (number (add f x z)) → T (number x)
 unfolding add isNan
@@ -171,17 +176,28 @@ both-no : (b : Bool) → T b → T (not b) → ⊥
 both-no true p q = q
 both-no false p q = p
 
--- new is not below old: then it is not lower
+-- new is not below old: nor is it with something added
+pub add-stays : (old new z : Float) → T (fits binary64 new) → T (upward new) → T (upward z) → T (not (lt new old)) → lt (add binary64 new z) old ≡ false
+add-stays old new z i p q h = by (lt (add binary64 new z) old) refl
+  where
+    falls : T (lt (add binary64 new z) old) → T (lt (add binary64 new z) new)
+    falls k = lt-skip (add binary64 new z) old new (first-number binary64 new z (lt-numbers (add binary64 new z) old k .0)) k h
+
+    by : (b : Bool) → lt (add binary64 new z) old ≡ b → b ≡ false
+    by true e = absurd (both-no (lt (add binary64 new z) new) (falls (true-is _ e)) (add-rises binary64 new z i p q))
+    by false e = refl
+
+-- then it is not lower
 pub never-lower : (old new : Float) → T (fits binary64 new) → T (upward new) → T (not (lt new old)) → lower new old ≡ false
 unfolding lower
-never-lower old new i p h = by (lt (add binary64 new margin) old) refl
-  where
-    falls : T (lt (add binary64 new margin) old) → T (lt (add binary64 new margin) new)
-    falls k = lt-skip (add binary64 new margin) old new (first-number binary64 new margin (lt-numbers (add binary64 new margin) old k .0)) k h
+never-lower old new i p h = add-stays old new margin i p (round-upward binary64 1 1000000000) h
 
-    by : (b : Bool) → lt (add binary64 new margin) old ≡ b → b ≡ false
-    by true e = absurd (both-no (lt (add binary64 new margin) new) (falls (true-is _ e)) (add-rises binary64 new margin i p (round-upward binary64 1 1000000000)))
-    by false e = refl
+-- and more of a sum leaves it so
+pub before-stays : (term : ℕ → Float) → ((i : ℕ) → T (upward (term i))) → (old s : Float) → T (fits binary64 s) → T (upward s) → T (not (lt s old)) → (n : ℕ) → T (not (lt (before s _⊕_ term n) old))
+unfolding before
+before-stays term all old s i p h zero = h
+before-stays term all old s i p h (suc n) =
+    subst (λ (b : Bool). T (not b)) (sym (add-stays old (before s _⊕_ term n) (term n) (fits-on term s i n) (before-upward term all s p n) (all n) (before-stays term all old s i p h n))) tt
 
 -- nothing is lower than itself
 not-below-itself : (x : Float) → T (not (lt x x))

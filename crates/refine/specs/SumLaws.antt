@@ -1,58 +1,37 @@
--- Laws: the sums of a picture, row by row; those of a trial's picture are the list's above the rows that the shape and the candidate reach, and a trial that is not lower below them is not lower.
+-- Laws: the sums of a picture, row by row; those of a trial's picture are the list's above the rows that the shape and the candidate reach, and a trial that is too high is not lower.
 use mathlib.Core.Path.{_≡_, refl, sym, ap, _∙_, subst}
 use mathlib.Core.Bool.{Bool, true, false, not, true≢false}
 use mathlib.Core.Logic.{_⊎_, inl, inr, ⊎-elim}
-use mathlib.Core.List.{List, [], _∷_}
+use mathlib.Core.List.{List, [], _∷_, _++_}
 use Prim.Native.Nat.{ℕ, zero, suc, _+_, _-_, _*_, _≤_, _<_}
 use native.Mathlib.Nat.{zero-mul, suc-mul, mul-le-mul-right}
 use native.Mathlib.Numerals.{add-one}
 use native.Mathlib.Omega.{arith}
 use lib.Dec.{T}
-use lib.Ieee.{Float, nan, binary64, lt}
+use lib.Ieee.{Float, nan, binary64, lt, le}
 use lib.Ieee as ieee
-use lib.ListN.{length, getD, set, take}
-use lib.Seq.{slice, drop-cons, getD-take, length-take-le, getD-set-same, getD-set-other, ext-getD}
-use Rattle.laws.specs.Every.{every}
-use Rattle.laws.specs.EveryLaws.{every-each, every-of}
+use lib.ListN.{length, getD, set, length-append, List·getD-append}
+use lib.Seq.{slice, getD-set-same, getD-set-other, getD-take, getD-append-add, length-take-le}
 use Rattle.laws.specs.F32.{_⊟_}
-use Rattle.laws.specs.RowLaws.{row-le}
 use Rattle.laws.specs.StrokeLaws.{le-or-lt}
-use Rattle.float.specs.Within.{nought, within, allWithin}
-use Rattle.cover.specs.Cover.{badPlaces}
-use Rattle.cover.specs.ReachRows.{reachRows}
+use Rattle.float.specs.Within.{nought}
 use Rattle.cover.specs.declared.reached.Rows.{Rows}
 use Rattle.picture.specs.Pixels.{squaredDifference, totalOf}
 use Rattle.picture.specs.Rows.{totalOn}
 use Rattle.picture.specs.RowTotals.{on-none, on-both, on-all, on-same}
-use Rattle.picture.specs.PaintingLaws.{length-painted}
-use Rattle.picture.specs.Places.{painted-agrees, painted-above, painted-below}
+use Rattle.picture.specs.Places.{painted-above, painted-below}
 use Rattle.shapes.specs.declared.Shape.{Shape}
 use Rattle.shapes.specs.declared.Shapes.{Shapes}
 use Rattle.shapes.specs.Blank.{blank}
 use Rattle.shapes.specs.Lists.{listed}
-use Rattle.shapes.specs.Ranges.{fits}
-use Rattle.shapes.specs.RangeLaws.{fits-places}
-use Rattle.refine.specs.declared.Sums.{Sums}
 use Rattle.refine.specs.Refinement.{paintedOn, lower}
 use Rattle.refine.specs.Scenes.{shapePainted}
-use Rattle.refine.specs.Courses.{SummedTo, summing, SameRows, Spanned, Judged}
-use Rattle.refine.specs.RisingLaws.{upward, square-upward, before-upward, before-keeps, before-fits, never-lower, itself-not-lower}
+use Rattle.refine.specs.Courses.{SummedTo, Spanned, Apart, Judged}
+use Rattle.refine.specs.PartLaws.{part-more}
+use Rattle.refine.specs.DrawingLaws.{painted-on-agrees, slice-first}
+use Rattle.refine.specs.RisingLaws.{upward, not-lt, square-upward, before-upward, before-keeps, before-stays, before-fits, never-lower, itself-not-lower}
 
-pub holds-not : (b : Bool) → T (not b) → b ≡ false
-holds-not true h = absurd h
-holds-not false h = refl
-
--- the places of a shape that fits
-pub well-placed : (s : Shape) → T (fits s) → badPlaces (s .kind) ≡ false
-well-placed s h = holds-not (badPlaces (s .kind)) (fits-places s h)
-
--- a shape of a list that fits
-pub shape-fits : (list : Shapes) (i : ℕ) → i < list .count → list .count ≤ length (list .items) → T (every fits (listed list)) → T (fits (getD (list .items) i blank))
-shape-fits list i h room all =
-    subst (λ (x : Shape). T (fits x)) (getD-take (list .count) (list .items) i blank h)
-    (every-each fits (listed list) i blank all (omega (arith, length-take-le (list .count) (list .items) room)))
-
--- ---- a loop over the rows
+-- ---- row by row
 pub sums-none : (w : ℕ) (target p sums : List Float) → getD sums 0 nan ≡ nought → SummedTo w 0 target p sums
 sums-none w target p sums e y h =
     ap (λ (k : ℕ). getD sums k nan) {x = y} {y = 0} (omega arith)
@@ -61,13 +40,19 @@ sums-none w target p sums e y h =
     ∙ ap (totalOn target p nought 0) {x = 0} {y = 0 * w * 3} (omega (arith, zero-mul w))
     ∙ ap (λ (k : ℕ). totalOn target p nought 0 (k * w * 3)) {x = 0} {y = y} (omega arith)
 
-pub sums-more : (w : ℕ) (target canvas p sums : List Float) (top bottom y : ℕ) (v : Float) → top ≤ y → y < bottom → y + 1 < length sums → SameRows w top bottom p canvas
-    → v ≡ totalOn target canvas (getD sums y nan) (y * w * 3) (w * 3) → SummedTo w y target p sums → SummedTo w (y + 1) target p (set sums (y + 1) v)
-sums-more w target canvas p sums top bottom y v low high room same e so-far z h = ⊎-elim passed last (le-or-lt z y)
-  where
-    start : top * w * 3 ≤ y * w * 3
-    start = omega (arith, mul-le-mul-right w low)
+-- one row more
+pub row-sum : (w : ℕ) (target p : List Float) (y : ℕ) (s v : Float) → s ≡ totalOn target p nought 0 (y * w * 3) → v ≡ totalOn target p s (y * w * 3) (w * 3) → v ≡ totalOn target p nought 0 ((y + 1) * w * 3)
+row-sum w target p y s v e f =
+    f
+    ∙ ap (λ (t : Float). totalOn target p t (y * w * 3) (w * 3)) e
+    ∙ ap (λ (n : ℕ). totalOn target p (totalOn target p nought 0 (y * w * 3)) n (w * 3)) {x = y * w * 3} {y = 0 + y * w * 3} (omega arith)
+    ∙ on-both target p nought 0 (y * w * 3) (w * 3)
+    ∙ ap (totalOn target p nought 0) {x = y * w * 3 + w * 3} {y = suc y * w * 3} (omega (arith, suc-mul y w))
+    ∙ ap (λ (n : ℕ). totalOn target p nought 0 (n * w * 3)) {x = suc y} {y = y + 1} (omega arith)
 
+pub sums-more : (w : ℕ) (target p sums : List Float) (y : ℕ) (v : Float) → y + 1 < length sums → v ≡ totalOn target p nought 0 ((y + 1) * w * 3) → SummedTo w y target p sums → SummedTo w (y + 1) target p (set sums (y + 1) v)
+sums-more w target p sums y v room e so-far z h = ⊎-elim passed last (le-or-lt z y)
+  where
     passed : z ≤ y → getD (set sums (y + 1) v) z nan ≡ totalOn target p nought 0 (z * w * 3)
     passed k = getD-set-other sums (y + 1) z v nan (λ d. omega arith) ∙ so-far z k
 
@@ -76,16 +61,11 @@ sums-more w target canvas p sums top bottom y v low high room same e so-far z h 
         ap (λ (n : ℕ). getD (set sums (y + 1) v) n nan) {x = z} {y = y + 1} (omega arith)
         ∙ getD-set-same sums (y + 1) v nan room
         ∙ e
-        ∙ on-same target canvas p (getD sums y nan) (y * w * 3) (w * 3) (λ i l. sym (same (y * w * 3 + i) (omega (arith, start)) (omega (arith, row-le w high))))
-        ∙ ap (λ (s : Float). totalOn target p s (y * w * 3) (w * 3)) (so-far y (omega arith))
-        ∙ ap (λ (n : ℕ). totalOn target p (totalOn target p nought 0 (y * w * 3)) n (w * 3)) {x = y * w * 3} {y = 0 + y * w * 3} (omega arith)
-        ∙ on-both target p nought 0 (y * w * 3) (w * 3)
-        ∙ ap (totalOn target p nought 0) {x = y * w * 3 + w * 3} {y = suc y * w * 3} (omega (arith, suc-mul y w))
-        ∙ ap (λ (n : ℕ). totalOn target p nought 0 (n * w * 3)) {x = suc y} {y = z} (omega arith)
+        ∙ ap (λ (n : ℕ). totalOn target p nought 0 (n * w * 3)) {x = y + 1} {y = z} (omega arith)
 
 -- after the last row stands the total
-pub sums-last : (w h : ℕ) (target p : List Float) (s : Sums) → length target ≡ h * w * 3 → summing w h target p s → getD (s .rows) h nan ≡ totalOf target p
-sums-last w h target p s e all = all h (omega arith) ∙ on-all target p (h * w * 3) (sym e)
+pub sums-last : (w h : ℕ) (target p sums : List Float) → length target ≡ h * w * 3 → SummedTo w h target p sums → getD sums h nan ≡ totalOf target p
+sums-last w h target p sums e all = all h (omega arith) ∙ on-all target p (h * w * 3) (sym e)
 
 -- ---- totals are sums of squares
 module _ (target p : List Float) (from : ℕ) where
@@ -100,145 +80,127 @@ module _ (target p : List Float) (from : ℕ) where
   unfolding totalOn
   on-keeps s t u v h n = before-keeps (λ i. squaredDifference (getD target (from + i) nan) (getD p (from + i) nan)) squares s t u v h n
 
+  on-stays : (old s : Float) → T (ieee.fits binary64 s) → T (upward s) → T (not (lt s old)) → (n : ℕ) → T (not (lt (totalOn target p s from n) old))
+  unfolding totalOn
+  on-stays old s i u h n = before-stays (λ i. squaredDifference (getD target (from + i) nan) (getD p (from + i) nan)) squares old s i u h n
+
 on-fits : (target p : List Float) (n : ℕ) → T (ieee.fits binary64 (totalOn target p nought 0 n))
 unfolding totalOn
 on-fits target p n = before-fits (λ i. squaredDifference (getD target (0 + i) nan) (getD p (0 + i) nan)) n
 
--- ---- pictures that are the same in some rows
-pub same-whole : (w h : ℕ) (p q : List Float) → length p ≡ h * w * 3 → length q ≡ h * w * 3 → SameRows w 0 h p q → p ≡ q
-same-whole w h p q e f same = ext-getD nan p q (e ∙ sym f) (λ i l. same i (omega (arith, zero-mul w)) (omega (arith, e)))
+-- ---- a trial's picture p, and the list's, q, that are the same above some rows and below them
+module _ (w h : ℕ) (target p q sums : List Float) (long : length target ≡ h * w * 3) (top bottom : ℕ) (ordered : top ≤ bottom) (inside : bottom ≤ h) (apart : Apart w h top bottom q p) (all : SummedTo w h target q sums) where
+  pub sums-above : SummedTo w top target p sums
+  sums-above z k = all z (omega (arith, ordered, inside)) ∙ on-same target q p nought 0 (z * w * 3) (λ i m. apart .above (0 + i) (omega (arith, mul-le-mul-right w k)))
 
--- a picture with shapes painted on it has its length
-pub painted-on-length : (w h : ℕ) (l : List Shape) (p : List Float) → length p ≡ h * w * 3 → length (paintedOn (shapePainted w h) p l) ≡ h * w * 3
-unfolding paintedOn
-painted-on-length w h [] p e = e
-painted-on-length w h (s ∷ l) p e = painted-on-length w h l (shapePainted w h s p) (length-painted (s .kind) (s .opacity) (s .red) (s .green) (s .blue) w h p)
+  -- a sum that is not below the list's at a row below the rows
+  module _ (mark : ℕ) (under : bottom ≤ mark) (in-picture : mark ≤ h) (high : T (not (lt (totalOn target p nought 0 (mark * w * 3)) (getD sums mark nan)))) where
+    passed : ℕ
+    passed = mark * w * 3
 
--- a picture of which the numbers from one on are another's
-pub joined-within : (p old new : List Float) (start : ℕ) → length new ≡ length p → length new ≡ length old → T (allWithin p) → ((i : ℕ) → i < start → i < length old → T (within (getD old i nan)))
-    → ((i : ℕ) → start ≤ i → i < length old → getD new i nan ≡ getD p i nan) → ((i : ℕ) → i < start → getD new i nan ≡ getD old i nan) → T (allWithin new)
-joined-within p old new start e f inside before after-start before-start =
-    every-of within new nan
-    (λ k l.
-    ⊎-elim
-    (λ (past : start ≤ k). subst (λ (v : Float). T (within v)) (sym (after-start k past (omega (arith, f)))) (every-each within p k nan inside (omega (arith, e))))
-    (λ (above : k < start). subst (λ (v : Float). T (within v)) (sym (before-start k above)) (before k above (omega (arith, f))))
-    (le-or-lt start k))
+    rest : ℕ
+    rest = h * w * 3 - mark * w * 3
 
--- ---- a trial
-module _ (w h : ℕ) (columns : 0 < w) where
-  -- pictures that agree at a number still do after more shapes
-  painted-on-agrees : (i : ℕ) → i < h * w * 3 → (l : List Shape) (p q : List Float) → getD p i nan ≡ getD q i nan
-      → getD (paintedOn (shapePainted w h) p l) i nan ≡ getD (paintedOn (shapePainted w h) q l) i nan
-  unfolding paintedOn
-  painted-on-agrees i k [] p q e = e
-  painted-on-agrees i k (s ∷ l) p q e =
-      painted-on-agrees i k l (shapePainted w h s p) (shapePainted w h s q) (painted-agrees (s .kind) (s .opacity) (s .red) (s .green) (s .blue) w h i columns k p q e)
+    gone-on : (r : List Float) → totalOn target r nought 0 (h * w * 3) ≡ totalOn target r (totalOn target r nought 0 passed) (0 + passed) rest
+    unfolding passed rest
+    gone-on r =
+        ap (totalOn target r nought 0) {x = h * w * 3} {y = passed + rest} (omega (arith, mul-le-mul-right w in-picture))
+        ∙ sym (on-both target r nought 0 passed rest)
 
-  module _ (top bottom : ℕ) (inside : bottom ≤ h) where
-    in-picture : (i : ℕ) → i < bottom * w * 3 → i < h * w * 3
-    in-picture i k = omega (arith, mul-le-mul-right w inside)
+    list-total : getD sums h nan ≡ totalOn target p (totalOn target q nought 0 passed) (0 + passed) rest
+    unfolding passed rest
+    list-total =
+        all h (omega arith)
+        ∙ gone-on q
+        ∙ on-same target q p (totalOn target q nought 0 passed) (0 + passed) rest (λ i m. apart .below (0 + passed + i) (omega (arith, mul-le-mul-right w under)) (omega arith))
 
-    -- and so do their rows
-    pub painted-on-same : (l : List Shape) (p q : List Float) → SameRows w top bottom p q → SameRows w top bottom (paintedOn (shapePainted w h) p l) (paintedOn (shapePainted w h) q l)
-    painted-on-same l p q same i a k = painted-on-agrees i (in-picture i k) l p q (same i a k)
+    still-high : T (not (lt (totalOn target p nought 0 passed) (totalOn target q nought 0 passed)))
+    unfolding passed
+    still-high = subst (λ (v : Float). T (not (lt (totalOn target p nought 0 (mark * w * 3)) v))) (all mark in-picture) high
 
-    -- one shape more, of which only these rows count
-    pub part-same : (p old new q : List Float) (s : Shape) → SameRows w top bottom old p → SameRows w top bottom new (shapePainted w h s old) → shapePainted w h s p ≡ q → SameRows w top bottom new q
-    unfolding paintedOn
-    part-same p old new q s same one all i a k = one i a k ∙ painted-on-same (s ∷ []) old p same i a k ∙ ap (λ (r : List Float). getD r i nan) all
+    not-lower : lower (totalOf target p) (getD sums h nan) ≡ false
+    not-lower =
+        let n = h * w * 3 in
+        subst (λ (v : Float). lower v (getD sums h nan) ≡ false) (on-all target p n (sym long))
+        (never-lower (getD sums h nan) (totalOn target p nought 0 n) (on-fits target p n) (on-upward target p 0 nought tt n)
+        (subst (λ (v : Float). T (not (lt (totalOn target p nought 0 n) v))) (sym list-total)
+        (subst (λ (v : Float). T (not (lt v (totalOn target p (totalOn target q nought 0 passed) (0 + passed) rest)))) (sym (gone-on p))
+        (on-keeps target p (0 + passed) (totalOn target q nought 0 passed) (totalOn target p nought 0 passed) (on-upward target q 0 nought tt passed) (on-upward target p 0 nought tt passed) still-high rest))))
 
-    -- a shape that ends above them, and one that begins below
-    pub under-same : (s : Shape) (p : List Float) → reachRows (s .kind) w h .bottom ≤ top → SameRows w top bottom p (shapePainted w h s p)
-    under-same s p below i a k = sym (painted-below (s .kind) (s .opacity) (s .red) (s .green) (s .blue) w h i columns (in-picture i k) p top below a)
+    itself : lower (getD sums h nan) (getD sums h nan) ≡ false
+    itself =
+        subst (λ (v : Float). lower v v ≡ false) (sym (all h (omega arith)))
+        (itself-not-lower (totalOn target q nought 0 (h * w * 3)) (on-fits target q (h * w * 3)) (on-upward target q 0 nought tt (h * w * 3)))
 
-    pub over-same : (s : Shape) (p : List Float) → bottom ≤ reachRows (s .kind) w h .top → SameRows w top bottom p (shapePainted w h s p)
-    over-same s p above i a k = sym (painted-above (s .kind) (s .opacity) (s .red) (s .green) (s .blue) w h i columns (in-picture i k) p bottom above k)
+    judged-high : (trial : List Float) → Judged w h target p sums trial (getD sums h nan)
+    judged-high trial = record { verdict = itself ∙ sym not-lower; total = λ e. absurd (true≢false (sym e ∙ itself)); sums = λ e. absurd (true≢false (sym e ∙ itself)) }
 
-  module _ (first : List Float) (y x : Shape) (l : List Shape) (rows : Rows) (span : Spanned w h y x rows) where
-    -- the pictures of the list and of the trial
-    abbrev listPicture : List Float
-    listPicture = paintedOn (shapePainted w h) first (y ∷ l)
-
-    abbrev trialPicture : List Float
-    trialPicture = shapePainted w h x (paintedOn (shapePainted w h) first l)
-
-    -- they are the same above the rows, and below
-    trial-above : (i : ℕ) → i < rows .top * w * 3 → getD listPicture i nan ≡ getD trialPicture i nan
-    unfolding paintedOn
-    trial-above i k =
-        let inside : i < h * w * 3 = omega (arith, mul-le-mul-right w (span .ordered), mul-le-mul-right w (span .inside)) in
-        painted-on-agrees i inside l (shapePainted w h y first) first (painted-above (y .kind) (y .opacity) (y .red) (y .green) (y .blue) w h i columns inside first (rows .top) (span .above-s) k)
-        ∙ sym (painted-above (x .kind) (x .opacity) (x .red) (x .green) (x .blue) w h i columns inside (paintedOn (shapePainted w h) first l) (rows .top) (span .above-x) k)
-
-    trial-below : (i : ℕ) → rows .bottom * w * 3 ≤ i → i < h * w * 3 → getD listPicture i nan ≡ getD trialPicture i nan
-    unfolding paintedOn
-    trial-below i k inside =
-        let short : rows .bottom < h =
-        ⊎-elim (λ (past : h ≤ rows .bottom). absurd (omega (arith, mul-le-mul-right w past))) (λ (m : rows .bottom < h). m) (le-or-lt h (rows .bottom)) in
-        painted-on-agrees i inside l (shapePainted w h y first) first (painted-below (y .kind) (y .opacity) (y .red) (y .green) (y .blue) w h i columns inside first (rows .bottom) (span .below-s short) k)
-        ∙ sym (painted-below (x .kind) (x .opacity) (x .red) (x .green) (x .blue) w h i columns inside (paintedOn (shapePainted w h) first l) (rows .bottom) (span .below-x short) k)
-
-    module _ (target : List Float) (s : Sums) (all : summing w h target (paintedOn (shapePainted w h) first (y ∷ l)) s) where
-      pub trial-sums : SummedTo w (rows .top) target (shapePainted w h x (paintedOn (shapePainted w h) first l)) (s .rows)
-      trial-sums z k =
-          all z (omega (arith, span .ordered, span .inside))
-          ∙ on-same target listPicture trialPicture nought 0 (z * w * 3) (λ i m. trial-above (0 + i) (omega (arith, mul-le-mul-right w k)))
-
-      -- a trial whose sum is not lower below the rows: its total is not lower
-      module _ (long : length target ≡ h * w * 3) (t : Sums) (part : SummedTo w (rows .bottom) target (shapePainted w h x (paintedOn (shapePainted w h) first l)) (t .rows))
-          (high : lt (getD (t .rows) (rows .bottom) nan) (getD (s .rows) (rows .bottom) nan) ≡ false) where
-        passed : ℕ
-        passed = rows .bottom * w * 3
-
-        left : ℕ
-        left = h * w * 3 - rows .bottom * w * 3
-
-        -- the whole, from its sum below the rows on
-        gone-on : (p : List Float) → totalOn target p nought 0 (h * w * 3) ≡ totalOn target p (totalOn target p nought 0 passed) (0 + passed) left
-        unfolding passed left
-        gone-on p =
-            ap (totalOn target p nought 0) {x = h * w * 3} {y = passed + left} (omega (arith, mul-le-mul-right w (span .inside)))
-            ∙ sym (on-both target p nought 0 passed left)
-
-        list-total : getD (s .rows) h nan ≡ totalOn target trialPicture (totalOn target listPicture nought 0 passed) (0 + passed) left
-        unfolding passed left
-        list-total =
-            all h (omega arith)
-            ∙ gone-on listPicture
-            ∙ on-same target listPicture trialPicture (totalOn target listPicture nought 0 passed) (0 + passed) left (λ i m. trial-below (0 + passed + i) (omega arith) (omega arith))
-
-        still-high : T (not (lt (totalOn target trialPicture nought 0 passed) (totalOn target listPicture nought 0 passed)))
-        unfolding passed
-        still-high =
-            subst (λ (v : Float). T (not (lt v (totalOn target listPicture nought 0 passed)))) (part (rows .bottom) (omega arith))
-            (subst (λ (v : Float). T (not (lt (getD (t .rows) (rows .bottom) nan) v))) (all (rows .bottom) (span .inside))
-            (subst (λ (b : Bool). T (not b)) (sym high) tt))
-
-        not-lower : lower (totalOf target trialPicture) (getD (s .rows) h nan) ≡ false
-        not-lower =
-            let n = h * w * 3 in
-            subst (λ (v : Float). lower v (getD (s .rows) h nan) ≡ false) (on-all target trialPicture n (sym long))
-            (never-lower (getD (s .rows) h nan) (totalOn target trialPicture nought 0 n) (on-fits target trialPicture n) (on-upward target trialPicture 0 nought tt n)
-            (subst (λ (v : Float). T (not (lt (totalOn target trialPicture nought 0 n) v))) (sym list-total)
-            (subst (λ (v : Float). T (not (lt v (totalOn target trialPicture (totalOn target listPicture nought 0 passed) (0 + passed) left)))) (sym (gone-on trialPicture))
-            (on-keeps target trialPicture (0 + passed) (totalOn target listPicture nought 0 passed) (totalOn target trialPicture nought 0 passed) (on-upward target listPicture 0 nought tt passed) (on-upward target trialPicture 0 nought tt passed) still-high left))))
-
-        itself : lower (getD (s .rows) h nan) (getD (s .rows) h nan) ≡ false
-        itself =
-            subst (λ (v : Float). lower v v ≡ false) (sym (all h (omega arith)))
-            (itself-not-lower (totalOn target listPicture nought 0 (h * w * 3)) (on-fits target listPicture (h * w * 3)) (on-upward target listPicture 0 nought tt (h * w * 3)))
-
-        pub judged-early : Judged w h target (shapePainted w h x (paintedOn (shapePainted w h) first l)) s s
-        judged-early = record { verdict = itself ∙ sym not-lower; sums = λ e. absurd (true≢false (sym e ∙ itself)) }
+  -- a sum that is too high at an earlier row stays so
+  pub judged-early : (y mark : ℕ) (sum : Float) (trial : List Float) → sum ≡ totalOn target p nought 0 (y * w * 3) → y ≤ mark → bottom ≤ mark → mark ≤ h → T (le (getD sums mark nan) sum) → Judged w h target p sums trial (getD sums h nan)
+  judged-early y mark sum trial e low under in-picture high =
+      judged-high mark under in-picture
+      (subst (λ (v : Float). T (not (lt v (getD sums mark nan)))) (sym more)
+      (on-stays target p (0 + y * w * 3) (getD sums mark nan) (totalOn target p nought 0 (y * w * 3)) (on-fits target p (y * w * 3)) (on-upward target p 0 nought tt (y * w * 3))
+      (subst (λ (v : Float). T (not (lt v (getD sums mark nan)))) e (not-lt (getD sums mark nan) sum high)) (mark * w * 3 - y * w * 3))) trial
+    where
+      more : totalOn target p nought 0 (mark * w * 3) ≡ totalOn target p (totalOn target p nought 0 (y * w * 3)) (0 + y * w * 3) (mark * w * 3 - y * w * 3)
+      more =
+          ap (totalOn target p nought 0) {x = mark * w * 3} {y = y * w * 3 + (mark * w * 3 - y * w * 3)} (omega (arith, mul-le-mul-right w low))
+          ∙ sym (on-both target p nought 0 (y * w * 3) (mark * w * 3 - y * w * 3))
 
 -- a trial that was drawn in full
-pub judged-all : (w h : ℕ) (target p : List Float) (old new : Sums) → length target ≡ h * w * 3 → summing w h target p new → Judged w h target p old new
-judged-all w h target p old new long all = record { verdict = ap (λ (v : Float). lower v (getD (old .rows) h nan)) (sums-last w h target p new long all); sums = λ e. all }
+pub judged-all : (w h : ℕ) (target p sums trial : List Float) (sum : Float) → length target ≡ h * w * 3 → sum ≡ totalOn target p nought 0 (h * w * 3) → SummedTo w h target p trial → Judged w h target p sums trial sum
+judged-all w h target p sums trial sum long e all =
+    let t : sum ≡ totalOf target p = e ∙ on-all target p (h * w * 3) (sym long) in
+    record { verdict = ap (λ (v : Float). lower v (getD sums h nan)) t; total = λ l. t; sums = λ l. all }
 
--- shape j, and those after it
-pub slice-first : (l : List Shape) (j n : ℕ) (d : Shape) → j < n → n ≤ length l → slice j n l ≡ getD l j d ∷ slice (j + 1) n l
-slice-first l j n d h k =
-    drop-cons (take n l) j d (omega (arith, length-take-le n l k))
-    ∙ ap (λ (s : Shape). s ∷ slice (suc j) n l) (getD-take n l j d h)
-    ∙ ap (λ (m : ℕ). getD l j d ∷ slice m n l) (sym (add-one j))
+-- ---- the pictures of the list and of the trial
+module _ (w h : ℕ) (columns : 0 < w) (first : List Float) (y x : Shape) (l : List Shape) (rows : Rows) (span : Spanned w h y x rows) where
+  pub trial-apart : Apart w h (rows .top) (rows .bottom) (paintedOn (shapePainted w h) first (y ∷ l)) (shapePainted w h x (paintedOn (shapePainted w h) first l))
+  unfolding paintedOn
+  trial-apart = record {
+    above = λ i k.
+        let inside : i < h * w * 3 = omega (arith, mul-le-mul-right w (span .ordered), mul-le-mul-right w (span .inside)) in
+        painted-on-agrees w h columns i inside l (shapePainted w h y first) first (painted-above (y .kind) (y .opacity) (y .red) (y .green) (y .blue) w h i columns inside first (rows .top) (span .above-s) k)
+        ∙ sym (painted-above (x .kind) (x .opacity) (x .red) (x .green) (x .blue) w h i columns inside (paintedOn (shapePainted w h) first l) (rows .top) (span .above-x) k);
+    below = λ i k inside.
+        let short : rows .bottom < h = ⊎-elim (λ (past : h ≤ rows .bottom). absurd (omega (arith, mul-le-mul-right w past))) (λ (m : rows .bottom < h). m) (le-or-lt h (rows .bottom)) in
+        painted-on-agrees w h columns i inside l (shapePainted w h y first) first (painted-below (y .kind) (y .opacity) (y .red) (y .green) (y .blue) w h i columns inside first (rows .bottom) (span .below-s short) k)
+        ∙ sym (painted-below (x .kind) (x .opacity) (x .red) (x .green) (x .blue) w h i columns inside (paintedOn (shapePainted w h) first l) (rows .bottom) (span .below-x short) k);
+  }
+
+-- the candidate stands after the list, in which shape j leaves
+module _ (w h : ℕ) (columns : 0 < w) (target first sums trial : List Float) (list : Shapes) (few : list .count ≤ 64) (long : length (list .items) ≡ 64) (j : ℕ) (below : j < list .count) (x : Shape) (rows : Rows) (span : Spanned w h (getD (list .items) j blank) x rows) (r : Float) where
+  abbrev all : List Shape
+  all = listed list ++ (x ∷ [])
+
+  count-is : length (listed list) ≡ list .count
+  count-is = length-take-le (list .count) (list .items) (omega arith)
+
+  all-long : length all ≡ list .count + 1
+  all-long = length-append (listed list) (x ∷ []) ∙ ap (λ (n : ℕ). n + 1) count-is
+
+  last-is : getD all (list .count) blank ≡ x
+  last-is = ap (λ (n : ℕ). getD all n blank) {x = list .count} {y = length (listed list) + 0} (omega (arith, count-is)) ∙ getD-append-add (listed list) (x ∷ []) 0 blank
+
+  old-is : getD all j blank ≡ getD (list .items) j blank
+  old-is = List·getD-append (listed list) (x ∷ []) blank j (omega (arith, count-is)) ∙ getD-take (list .count) (list .items) j blank below
+
+  whole : shapePainted w h x (paintedOn (shapePainted w h) first (slice (j + 1) (list .count) all)) ≡ paintedOn (shapePainted w h) first (slice (j + 1) (list .count + 1) all)
+  whole =
+      ap (λ (s : Shape). shapePainted w h s (paintedOn (shapePainted w h) first (slice (j + 1) (list .count) all))) (sym last-is)
+      ∙ part-more (shapePainted w h) first (paintedOn (shapePainted w h) first (slice (j + 1) (list .count) all)) (j + 1) (list .count) all blank (omega arith) (omega (arith, all-long)) refl
+
+  old-first : slice j (list .count) all ≡ getD (list .items) j blank ∷ slice (j + 1) (list .count) all
+  old-first = slice-first all j (list .count) blank below (omega (arith, all-long)) ∙ ap (λ (s : Shape). s ∷ slice (j + 1) (list .count) all) old-is
+
+  pub judged-trial : ((q : List Float) → Apart w h (rows .top) (rows .bottom) q (paintedOn (shapePainted w h) first (slice (j + 1) (list .count + 1) (listed list ++ (x ∷ [])))) → SummedTo w h target q sums
+      → Judged w h target (paintedOn (shapePainted w h) first (slice (j + 1) (list .count + 1) (listed list ++ (x ∷ [])))) sums trial r)
+      → SummedTo w h target (paintedOn (shapePainted w h) first (slice j (list .count) (listed list ++ (x ∷ [])))) sums
+      → Judged w h target (shapePainted w h x (paintedOn (shapePainted w h) first (slice (j + 1) (list .count) (listed list ++ (x ∷ []))))) sums trial r
+  judged-trial f summed =
+      subst (λ (p : List Float). Judged w h target p sums trial r) (sym whole)
+      (f (paintedOn (shapePainted w h) first (slice j (list .count) all))
+      (subst (Apart w h (rows .top) (rows .bottom) (paintedOn (shapePainted w h) first (slice j (list .count) all))) whole
+      (subst (λ (l : List Shape). Apart w h (rows .top) (rows .bottom) (paintedOn (shapePainted w h) first l) (shapePainted w h x (paintedOn (shapePainted w h) first (slice (j + 1) (list .count) all)))) (sym old-first)
+      (trial-apart w h columns first (getD (list .items) j blank) x (slice (j + 1) (list .count) all) rows span))) summed)

@@ -7,8 +7,9 @@ use mathlib.Core.Option.{Option, none}
 use Prim.Native.Nat.{ℕ, _+_, _-_, _*_, _≤_, _<_}
 use lib.Dec.{T}
 use lib.Ieee.{Float}
-use lib.ListN.{length, getD, length-map}
-use Rattle.float.specs.Within.{allWithin}
+use lib.ListN.{length, getD, take, length-map, length-replicate}
+use lib.Seq.{take-take}
+use Rattle.float.specs.Within.{nought, allWithin}
 use Rattle.picture.specs.Pixels.{filled}
 use Rattle.picture.specs.PixelLaws.{filled-within}
 use Rattle.shapes.specs.declared.Shape.{Shape}
@@ -18,12 +19,12 @@ use Rattle.shapes.specs.Lists.{listed, shapeIn, offered}
 use Rattle.shapes.specs.Ranges.{rangesOf}
 use Rattle.refine.specs.declared.Course.{Course}
 use Rattle.refine.specs.declared.Refined.{Refined}
-use Rattle.refine.specs.declared.Sums.{Sums}
-use Rattle.refine.specs.Refinement.{Scene, Progress, drawn, refined}
-use Rattle.refine.specs.Scenes.{sceneOf}
+use Rattle.refine.specs.Refinement.{Scene, Progress, paintedOn, drawn, refined}
+use Rattle.refine.specs.Scenes.{shapePainted, sceneOf}
+use Rattle.refine.specs.TraceLaws.{table-of}
 use Rattle.refine.specs.Tests.{lookedAt}
 use Rattle.refine.specs.TestLaws.{SizesPassed, RangesPassed, sizes-passed, ranges-passed, refusal-sizes, refusal-ranges}
-use Rattle.refine.specs.Courses.{progressOf, restarted, summing, Stepped}
+use Rattle.refine.specs.Courses.{progressOf, restarted, Aids, aidsOf, Aided, Stepped}
 use Rattle.refine.specs.CourseLaws.{During, Between, listed-length, during-start, during-next, between-end}
 use Rattle.refine.specs.CallLaws.{lookedUpTo, look-none, look-more, list-fits, offers-fit, offer-at, offer-fits, started, trial-below, ready, onward, fewer}
 use Rattle.refine.specs.AnswerLaws.{done-says, refused-says}
@@ -41,20 +42,20 @@ abbrev μ-loop : tie.MeasureT-loop
 
 -- t trials of a pass
 abbrev Inv-loop3 : tie.InvT-loop3
-Inv-loop3 passes red green blue w h target first₀ second₀ candidates n offers number i number' c₀ limit before t₀ first second c t =
-    During (sceneOf w h red green blue target candidates) (h * w * 3) (summing w h target) n (progressOf c₀) t c first second
+Inv-loop3 passes red green blue w h target first₀ second₀ candidates n offers number i number' sums₀ runs₀ paints₀ c₀ limit before t₀ first second sums runs paints c t =
+    During (sceneOf w h red green blue target candidates) (h * w * 3) (Aided w h target (filled w h red green blue)) n (progressOf c₀) t c first (aidsOf second sums runs paints)
 
 abbrev μ-loop3 : tie.MeasureT-loop3
-μ-loop3 passes red green blue w h target first₀ second₀ candidates n offers number i number' c₀ limit before t₀ first second c t =
+μ-loop3 passes red green blue w h target first₀ second₀ candidates n offers number i number' sums₀ runs₀ paints₀ c₀ limit before t₀ first second sums runs paints c t =
     n - t
 
 -- some passes
 abbrev Inv-loop2 : tie.InvT-loop2
-Inv-loop2 passes red green blue w h target first₀ second₀ candidates n offers number i number' c₀ limit₀ first second c limit =
-    Between (sceneOf w h red green blue target candidates) (h * w * 3) (summing w h target) n (refined (sceneOf w h red green blue target candidates) passes (listed (c₀ .list))) limit c first second
+Inv-loop2 passes red green blue w h target first₀ second₀ candidates n offers number i number' sums₀ runs₀ paints₀ c₀ limit₀ first second sums runs paints c limit =
+    Between (sceneOf w h red green blue target candidates) (h * w * 3) (Aided w h target (filled w h red green blue)) n (refined (sceneOf w h red green blue target candidates) passes (listed (c₀ .list))) limit c first (aidsOf second sums runs paints)
 
 abbrev μ-loop2 : tie.MeasureT-loop2
-μ-loop2 passes red green blue w h target first₀ second₀ candidates n offers number i number' c₀ limit₀ first second c limit =
+μ-loop2 passes red green blue w h target first₀ second₀ candidates n offers number i number' sums₀ runs₀ paints₀ c₀ limit₀ first second sums runs paints c limit =
     limit - c .passes
 
 -- what an element past the end is taken for
@@ -67,9 +68,9 @@ sceneAt s = sceneOf (s .args .w) (s .args .h) (s .args .red) (s .args .green) (s
 abbrev sizeAt : tie.Start Inv-loop μ-loop Inv-loop3 μ-loop3 Inv-loop2 μ-loop2 → ℕ
 sizeAt s = s .args .h * s .args .w * 3
 
--- what the sums of a picture are
-abbrev sumsAt : tie.Start Inv-loop μ-loop Inv-loop3 μ-loop3 Inv-loop2 μ-loop2 → List Float → Sums → Type 0
-sumsAt s = summing (s .args .w) (s .args .h) (s .args .target .now)
+-- what the aids serve
+abbrev servedAt : tie.Start Inv-loop μ-loop Inv-loop3 μ-loop3 Inv-loop2 μ-loop2 → List Shape → Aids → Type 0
+servedAt s = Aided (s .args .w) (s .args .h) (s .args .target .now) (filled (s .args .w) (s .args .h) (s .args .red) (s .args .green) (s .args .blue))
 
 -- an array's length is among what owning the parameter tells
 items-long : (s : tie.Start Inv-loop μ-loop Inv-loop3 μ-loop3 Inv-loop2 μ-loop2) → length (s .args .list .items) ≡ 64
@@ -154,13 +155,17 @@ ranges c = ranges-passed _ (c .before .before .before .loop .ranges) _ _ _ _ (lo
 
 start-requires : tie.Need-start-requires Inv-loop μ-loop Inv-loop3 μ-loop3 Inv-loop2 μ-loop2
 start-requires c κs =
-    let a = c .before .before .before .before .before .before .before .before .before .before .before .args in
-    let z = sizes (c .before .before .before .before .before .before) in
-    let r = ranges (c .before) in (
-      record { sized = z .sized; few = z .few-shapes; fitting = list-fits (a .list) (a .t2) (r .fitting) },
-      r .background,
-      record { long = z .target-long; inside = r .target-within },
-      z .first-long,
+    let a = c .before .before .before .before .before .before .before .before .before .before .before .before .before .before .before .args in
+    let z = sizes (c .before .before .before .before .before .before .before .before .before .before) in
+    let r = ranges (c .before .before .before .before .before) in (
+      (
+        record { sized = z .sized; few = z .few-shapes; fitting = list-fits (a .list) (a .t2) (r .fitting) },
+        r .background,
+        record { long = z .target-long; inside = r .target-within },
+        z .first-long,
+        z .second-long,
+      ),
+      (length-replicate 257 nought, length-replicate {A = ℕ} 33280 0, length-replicate 260 nought),
     )
 
 most-requires : tie.Need-most-requires Inv-loop μ-loop Inv-loop3 μ-loop3 Inv-loop2 μ-loop2
@@ -168,13 +173,13 @@ most-requires c κs = search needs
 
 loop2-holds : tie.Need-loop2-holds Inv-loop μ-loop Inv-loop3 μ-loop3 Inv-loop2 μ-loop2
 loop2-holds c =
-    let s = c .before .before .before .before .before .before .before .before .before .before .before .before .before .before .before in
+    let s = c .before .before .before .before .before .before .before .before .before .before .before .before .before .before .before .before .before .before .before .before .before in
     let a = s .args in
-    let z = sizes (c .before .before .before .before .before .before .before .before .before .before) in
-    let r = ranges (c .before .before .before .before .before) in
-    let u = c .before .before .before .start in
-    started (sceneAt s) (sizeAt s) (sumsAt s) (a .list) (u .last .1 .1 .1 .1 .1 .1 .1 .0) (a .second .now) (a .passes) (c .most .result) (u .result) (u .ensures .0) (u .ensures .1) (z .few-shapes) (items-long s) (list-fits (a .list) (a .t2) (r .fitting))
-    (u .kept .1 .1 .1 .1 .1 .1 .1 .0 ∙ z .first-long) (z .second-long) (z .few-passes) (c .most .ensures)
+    let z = sizes (c .before .before .before .before .before .before .before .before .before .before .before .before .before .before .before .before) in
+    let r = ranges (c .before .before .before .before .before .before .before .before .before .before .before) in
+    let u = c .before .before .before .before .before .start in
+    started (sceneAt s) (sizeAt s) (servedAt s) (a .list) (u .last .1 .1 .1 .1 .1 .1 .1 .0) (aidsOf (u .last .1 .1 .1 .1 .1 .1 .1 .1 .0) (u .last .1 .1 .1 .1 .1 .1 .1 .1 .1 .0) (u .last .1 .1 .1 .1 .1 .1 .1 .1 .1 .1 .0) (u .last .1 .1 .1 .1 .1 .1 .1 .1 .1 .1 .1 .0)) (a .passes) (c .most .result) (u .result) (u .ensures .0) (u .ensures .1) (z .few-shapes) (items-long s) (list-fits (a .list) (a .t2) (r .fitting))
+    (u .kept .1 .1 .1 .1 .1 .1 .1 .0 ∙ z .first-long) (z .few-passes) (c .most .ensures)
 
 restart-requires : tie.Need-restart-requires Inv-loop μ-loop Inv-loop3 μ-loop3 Inv-loop2 μ-loop2
 restart-requires c κs =
@@ -183,33 +188,44 @@ restart-requires c κs =
 
 loop3-holds : tie.Need-loop3-holds Inv-loop μ-loop Inv-loop3 μ-loop3 Inv-loop2 μ-loop2
 loop3-holds c =
-    let s = c .before .before .before .before .before .before .before .before .before .before .before .before .before .before .before .before .before .before .before .before .before .before in
+    let s = c .before .before .before .before .before .before .before .before .before .before .before .before .before .before .before .before .before .before .before .before .before .before .before .before .before .before .before .before in
     let a = s .args in
     let l = c .before .before .before .before .before .before .loop2 in
     let r = c .before .before .restart in
     let first = r .last .1 .1 .1 .1 .1 .1 .0 in
-    subst (λ (m : Course). During (sceneAt s) (sizeAt s) (sumsAt s) (a .list .count) (progressOf m) 0 m first (l .second)) (sym (r .ensures .0))
-    (during-start (sceneAt s) (sizeAt s) (sumsAt s) (a .list .count) (refined (sceneAt s) (a .passes) (listed (c .before .before .before .before .before .before .before .before .before .before .start .result .list))) (l .limit) (l .c) (l .first) (l .second) (l .inv) (c .before .before .before .before .if3 .taken) first (r .ensures .1)
+    let aids = aidsOf (l .second) (l .sums) (l .runs) (l .paints) in
+    subst (λ (m : Course). During (sceneAt s) (sizeAt s) (servedAt s) (a .list .count) (progressOf m) 0 m first aids) (sym (r .ensures .0))
+    (during-start (sceneAt s) (sizeAt s) (servedAt s) (a .list .count) (refined (sceneAt s) (a .passes) (listed (c .before .before .before .before .before .before .before .before .before .before .before .before .start .result .list))) (l .limit) (l .c) (l .first) aids (l .inv) (c .before .before .before .before .if3 .taken) first (r .ensures .1)
     (r .kept .1 .1 .1 .1 .1 .1 .0 ∙ l .inv .kept .first-long)
-    (subst (λ (p : List Float). T (allWithin p)) (sym (r .ensures .1)) (filled-within (a .w) (a .h) (a .red) (a .green) (a .blue) (ranges (c .before .before .before .before .before .before .before .before .before .before .before .before) .background))))
+    (subst (λ (p : List Float). T (allWithin p)) (sym (r .ensures .1)) (filled-within (a .w) (a .h) (a .red) (a .green) (a .blue) (ranges (c .before .before .before .before .before .before .before .before .before .before .before .before .before .before .before .before .before .before) .background))))
+
+abbrev startOf : tie.At-loop3 Inv-loop μ-loop Inv-loop3 μ-loop3 Inv-loop2 μ-loop2 → tie.Start Inv-loop μ-loop Inv-loop3 μ-loop3 Inv-loop2 μ-loop2
+startOf c = c .before .before .before .before .before .before .before .before .before .before .before .before .before .before .before .before .before .before .before .before .before .before .before .before .before .before .before .before .before
+
+abbrev aidsAt : tie.At-loop3 Inv-loop μ-loop Inv-loop3 μ-loop3 Inv-loop2 μ-loop2 → Aids
+aidsAt c = aidsOf (c .loop3 .second) (c .loop3 .sums) (c .loop3 .runs) (c .loop3 .paints)
+
+-- those of the pass before
+abbrev aidsBefore : tie.At-loop3 Inv-loop μ-loop Inv-loop3 μ-loop3 Inv-loop2 μ-loop2 → Aids
+aidsBefore c = aidsOf (c .before .before .before .before .before .before .before .loop2 .second) (c .before .before .before .before .before .before .before .loop2 .sums) (c .before .before .before .before .before .before .before .loop2 .runs) (c .before .before .before .before .before .before .before .loop2 .paints)
 
 -- the pass that is being made began with the course after the passes before it
 abbrev FromAt : tie.At-loop3 Inv-loop μ-loop Inv-loop3 μ-loop3 Inv-loop2 μ-loop2 → Progress Shape → Type 0
-FromAt c b = During (sceneAt (c .before .before .before .before .before .before .before .before .before .before .before .before .before .before .before .before .before .before .before .before .before .before .before)) (sizeAt (c .before .before .before .before .before .before .before .before .before .before .before .before .before .before .before .before .before .before .before .before .before .before .before)) (sumsAt (c .before .before .before .before .before .before .before .before .before .before .before .before .before .before .before .before .before .before .before .before .before .before .before)) (c .before .before .before .before .before .before .before .before .before .before .before .before .before .before .before .before .before .before .before .before .before .before .before .args .list .count) b (c .loop3 .t) (c .loop3 .c) (c .loop3 .first) (c .loop3 .second)
+FromAt c b = During (sceneAt (startOf c)) (sizeAt (startOf c)) (servedAt (startOf c)) (startOf c .args .list .count) b (c .loop3 .t) (c .loop3 .c) (c .loop3 .first) (aidsAt c)
 
 during : (c : tie.At-loop3 Inv-loop μ-loop Inv-loop3 μ-loop3 Inv-loop2 μ-loop2) → FromAt c (progressOf (restarted (c .before .before .before .before .before .before .before .loop2 .c)))
 during c = subst (λ (m : Course). FromAt c (progressOf m)) (c .before .before .before .restart .ensures .0) (c .loop3 .inv)
 
 abbrev endAt : tie.At-loop3 Inv-loop μ-loop Inv-loop3 μ-loop3 Inv-loop2 μ-loop2 → Progress Shape
-endAt c = refined (sceneAt (c .before .before .before .before .before .before .before .before .before .before .before .before .before .before .before .before .before .before .before .before .before .before .before)) (c .before .before .before .before .before .before .before .before .before .before .before .before .before .before .before .before .before .before .before .before .before .before .before .args .passes) (listed (c .before .before .before .before .before .before .before .before .before .before .before .start .result .list))
+endAt c = refined (sceneAt (startOf c)) (startOf c .args .passes) (listed (c .before .before .before .before .before .before .before .before .before .before .before .before .before .start .result .list))
 
 below : (c : tie.In-loop3 Inv-loop μ-loop Inv-loop3 μ-loop3 Inv-loop2 μ-loop2) → c .before .loop3 .c .trials < 1024
 below i =
     let c = i .before in
-    let s = c .before .before .before .before .before .before .before .before .before .before .before .before .before .before .before .before .before .before .before .before .before .before .before in
+    let s = startOf c in
     let o = c .before .before .before .before .before .before .before .loop2 in
     let l = c .loop3 in
-    trial-below (sceneAt s) (sizeAt s) (sumsAt s) (s .args .list .count) (endAt c) (o .limit) (o .c) (o .first) (o .second) (o .inv) (c .before .before .before .before .before .if3 .taken) (l .t) (l .c) (l .first) (l .second) (during c) (i .loop3-test .taken)
+    trial-below (sceneAt s) (sizeAt s) (servedAt s) (s .args .list .count) (endAt c) (o .limit) (o .c) (o .first) (aidsBefore c) (o .inv) (c .before .before .before .before .before .if3 .taken) (l .t) (l .c) (l .first) (aidsAt c) (during c) (i .loop3-test .taken)
 
 mul-slot-2 : tie.Need-mul-slot-2 Inv-loop μ-loop Inv-loop3 μ-loop3 Inv-loop2 μ-loop2
 mul-slot-2 c = omega (arith, below c)
@@ -221,24 +237,23 @@ offer-requires : tie.Need-offer-requires Inv-loop μ-loop Inv-loop3 μ-loop3 Inv
 offer-requires c κs = search needs
 
 -- what is offered is the candidate of this trial
-trial-offer : (c : tie.After-offer Inv-loop μ-loop Inv-loop3 μ-loop3 Inv-loop2 μ-loop2) → getD (offered (c .before .before .before .before .before .before .before .before .before .before .before .before .before .before .before .before .before .before .before .before .before .before .before .before .before .before .args .t2)) (c .before .before .before .loop3 .c .trials) none ≡ shapeIn (c .offer .result)
+trial-offer : (c : tie.After-offer Inv-loop μ-loop Inv-loop3 μ-loop3 Inv-loop2 μ-loop2) → getD (offered (c .before .before .before .before .before .before .before .before .before .before .before .before .before .before .before .before .before .before .before .before .before .before .before .before .before .before .before .before .before .before .before .before .args .t2)) (c .before .before .before .loop3 .c .trials) none ≡ shapeIn (c .offer .result)
 trial-offer c =
-    let s = c .before .before .before .before .before .before .before .before .before .before .before .before .before .before .before .before .before .before .before .before .before .before .before .before .before .before in
-    offer-at (s .args .t2) (c .before .before .before .loop3 .c .trials) empty (omega (arith, slots-long s, sizes (c .before .before .before .before .before .before .before .before .before .before .before .before .before .before .before .before .before .before .before .before .before) .few-candidates)) ∙ sym (c .offer .ensures)
+    let s = c .before .before .before .before .before .before .before .before .before .before .before .before .before .before .before .before .before .before .before .before .before .before .before .before .before .before .before .before .before .before .before .before in
+    offer-at (s .args .t2) (c .before .before .before .loop3 .c .trials) empty (omega (arith, slots-long s, sizes (c .before .before .before .before .before .before .before .before .before .before .before .before .before .before .before .before .before .before .before .before .before .before .before .before .before .before .before) .few-candidates)) ∙ sym (c .offer .ensures)
 
 step-requires : tie.Need-step-requires Inv-loop μ-loop Inv-loop3 μ-loop3 Inv-loop2 μ-loop2
 step-requires c κs =
-    let i = c .before .before .before .before in
-    let m = c .before .before .before .before .before in
-    let s = c .before .before .before .before .before .before .before .before .before .before .before .before .before .before .before .before .before .before .before .before .before .before .before .before .before .before .before .before in
+    let m = c .before .before .before .before .before .before .before .before in
+    let s = startOf m in
     let a = s .args in
     let o = m .before .before .before .before .before .before .before .loop2 in
     let l = m .loop3 in
-    let z = sizes (m .before .before .before .before .before .before .before .before .before .before .before .before .before .before .before .before .before .before) in
-    let r = ranges (m .before .before .before .before .before .before .before .before .before .before .before .before .before) in
-    ready (sceneAt s) (sizeAt s) (sumsAt s) (a .list .count) (endAt m) (o .limit) (o .c) (o .first) (o .second) (o .inv) (m .before .before .before .before .before .if3 .taken) (l .t) (l .c) (l .first) (l .second) (during m) (a .w) (a .h) (a .target .now)
-    (shapeIn (c .before .before .offer .result)) refl (i .loop3-test .taken) (z .sized) (record { long = z .target-long; inside = r .target-within })
-    (offer-fits (offered (a .t2)) (l .c .trials) (shapeIn (c .before .before .offer .result)) (offers-fit (a .list) (a .t2) (r .fitting)) (trial-offer (c .before .before)))
+    let z = sizes (m .before .before .before .before .before .before .before .before .before .before .before .before .before .before .before .before .before .before .before .before .before .before .before .before) in
+    let r = ranges (m .before .before .before .before .before .before .before .before .before .before .before .before .before .before .before .before .before .before .before) in
+    ready (sceneAt s) (sizeAt s) (servedAt s) (a .list .count) (endAt m) (o .limit) (o .c) (o .first) (aidsBefore m) (o .inv) (m .before .before .before .before .before .if3 .taken) (l .t) (l .c) (l .first) (aidsAt m) (during m) (a .w) (a .h) (a .target .now)
+    (shapeIn (c .before .before .before .before .before .offer .result)) (filled (a .w) (a .h) (a .red) (a .green) (a .blue)) refl (c .before .before .before .before .before .before .before .loop3-test .taken) (z .sized) (record { long = z .target-long; inside = r .target-within })
+    (offer-fits (offered (a .t2)) (l .c .trials) (shapeIn (c .before .before .before .before .before .offer .result)) (offers-fit (a .list) (a .t2) (r .fitting)) (trial-offer (c .before .before .before .before .before))) (l .inv .held .kept .served)
 
 add-t : tie.Need-add-t Inv-loop μ-loop Inv-loop3 μ-loop3 Inv-loop2 μ-loop2
 add-t c = search needs
@@ -248,15 +263,15 @@ loop3-less c = search needs
 
 loop3-again : tie.Need-loop3-again Inv-loop μ-loop Inv-loop3 μ-loop3 Inv-loop2 μ-loop2
 loop3-again c =
-    let m = c .before .before .before .before .before .before .before .before .before .before in
-    let s = m .before .before .before .before .before .before .before .before .before .before .before .before .before .before .before .before .before .before .before .before .before .before .before in
+    let m = c .before .before .before .before .before .before .before .before .before .before .before .before .before in
+    let s = startOf m in
     let a = s .args in
     let l = m .loop3 in
     let k = c .before .before .before .before .step in
     let first = k .last .1 .1 .1 .1 .1 .0 in
-    let second = k .last .1 .1 .1 .1 .1 .1 .0 in
-    during-next (sceneAt s) (sizeAt s) (sumsAt s) (a .list .count) (progressOf (m .before .before .before .restart .result)) (l .t) (l .c) (k .result) (l .first) (l .second) first second (l .inv) (c .before .before .before .before .before .before .before .before .before .loop3-test .taken)
-    (k .ensures (filled (a .w) (a .h) (a .red) (a .green) (a .blue)) (λ j. getD (offered (a .t2)) j none) (trial-offer (c .before .before .before .before .before .before .before)) (l .inv .held))
+    let aids = aidsOf (k .last .1 .1 .1 .1 .1 .1 .0) (k .last .1 .1 .1 .1 .1 .1 .1 .0) (k .last .1 .1 .1 .1 .1 .1 .1 .1 .0) (k .last .1 .1 .1 .1 .1 .1 .1 .1 .1 .0) in
+    during-next (sceneAt s) (sizeAt s) (servedAt s) (a .list .count) (progressOf (m .before .before .before .restart .result)) (l .t) (l .c) (k .result) (l .first) (aidsAt m) first aids (l .inv) (c .before .before .before .before .before .before .before .before .before .before .before .before .loop3-test .taken)
+    (k .ensures (filled (a .w) (a .h) (a .red) (a .green) (a .blue)) (λ j. getD (offered (a .t2)) j none) (trial-offer (c .before .before .before .before .before .before .before .before .before .before)) (l .inv .held))
 
 still-requires : tie.Need-still-requires Inv-loop μ-loop Inv-loop3 μ-loop3 Inv-loop2 μ-loop2
 still-requires c κs = search needs
@@ -264,59 +279,62 @@ still-requires c κs = search needs
 loop2-less : tie.Need-loop2-less Inv-loop μ-loop Inv-loop3 μ-loop3 Inv-loop2 μ-loop2
 loop2-less c =
     let m = c .before .before in
-    let s = m .before .before .before .before .before .before .before .before .before .before .before .before .before .before .before .before .before .before .before .before .before .before .before in
+    let s = startOf m in
     let a = s .args in
     let o = m .before .before .before .before .before .before .before .loop2 in
     let l = m .loop3 in
-    fewer (sceneAt s) (sizeAt s) (sumsAt s) (a .list .count) (endAt m) (o .limit) (o .c) (o .first) (o .second) (o .inv) (m .before .before .before .before .before .if3 .taken) (l .t) (l .c) (l .first) (l .second) (during m) (c .still .result) (c .still .ensures)
+    fewer (sceneAt s) (sizeAt s) (servedAt s) (a .list .count) (endAt m) (o .limit) (o .c) (o .first) (aidsBefore m) (o .inv) (m .before .before .before .before .before .if3 .taken) (l .t) (l .c) (l .first) (aidsAt m) (during m) (c .still .result) (c .still .ensures)
 
 loop2-again : tie.Need-loop2-again Inv-loop μ-loop Inv-loop3 μ-loop3 Inv-loop2 μ-loop2
 loop2-again c =
     let m = c .before .before in
-    let s = m .before .before .before .before .before .before .before .before .before .before .before .before .before .before .before .before .before .before .before .before .before .before .before in
+    let s = startOf m in
     let a = s .args in
     let o = m .before .before .before .before .before .before .before .loop2 in
     let l = m .loop3 in
-    onward (sceneAt s) (sizeAt s) (sumsAt s) (a .list .count) (endAt m) (o .limit) (o .c) (o .first) (o .second) (o .inv) (m .before .before .before .before .before .if3 .taken) (l .t) (l .c) (l .first) (l .second) (during m) (c .still .result) (c .before .loop3-test .left) (c .still .ensures)
+    onward (sceneAt s) (sizeAt s) (servedAt s) (a .list .count) (endAt m) (o .limit) (o .c) (o .first) (aidsBefore m) (o .inv) (m .before .before .before .before .before .if3 .taken) (l .t) (l .c) (l .first) (aidsAt m) (during m) (c .still .result) (c .before .loop3-test .left) (c .still .ensures)
+
+-- the list at the end is as long as it was
+many : (c : tie.At-loop2 Inv-loop μ-loop Inv-loop3 μ-loop3 Inv-loop2 μ-loop2) → c .before .before .before .before .before .before .before .before .before .before .before .before .before .before .before .before .before .before .before .before .before .before .args .list .count ≤ length (listed (c .loop2 .c .list))
+many c = omega (arith, listed-length (c .loop2 .c .list) (c .loop2 .inv .kept .few) (c .loop2 .inv .kept .long), c .loop2 .inv .count)
 
 finish-requires : tie.Need-finish-requires Inv-loop μ-loop Inv-loop3 μ-loop3 Inv-loop2 μ-loop2
 finish-requires c κs =
-    let m = c .before .before .before .before .before in
+    let m = c .before .before .before .before .before .before in
     let l = m .loop2 in
-    let z = sizes (m .before .before .before .before .before .before .before .before .before .before .before) in
-    let r = ranges (m .before .before .before .before .before .before) in (
-      record { sized = z .sized; few = l .inv .kept .few; fitting = l .inv .kept .fitting },
-      r .background,
-      l .inv .kept .first-long,
-      l .inv .kept .second-long,
-    )
+    let a = m .before .before .before .before .before .before .before .before .before .before .before .before .before .before .before .before .before .before .before .before .before .before .args in
+    let r = ranges (m .before .before .before .before .before .before .before .before .before .before .before .before) in
+    (table-of (a .w) (a .h) (a .list .count) (listed (l .c .list)) (l .runs) (l .paints) (l .inv .kept .served .traced) (many m), r .background, l .inv .kept .first-long, l .inv .kept .served .second-long)
 
 answer-requires : tie.Need-answer-requires Inv-loop μ-loop Inv-loop3 μ-loop3 Inv-loop2 μ-loop2
 answer-requires c κs = search needs
 
 same-length : tie.Need-same-length Inv-loop μ-loop Inv-loop3 μ-loop3 Inv-loop2 μ-loop2
-same-length c = c .before .before .before .before .before .finish .kept .1 .1 .1 .1 .1 .1 .0 ∙ c .before .before .before .before .before .before .before .before .before .before .before .loop2 .inv .kept .first-long ∙ sym (sizes (c .before .before .before .before .before .before .before .before .before .before .before .before .before .before .before .before .before .before .before .before .before .before) .first-long)
+same-length c = c .before .before .before .before .before .finish .kept .1 .1 .1 .1 .1 .1 .1 .1 .0 ∙ c .before .before .before .before .before .before .before .before .before .before .before .before .loop2 .inv .kept .first-long ∙ sym (sizes (c .before .before .before .before .before .before .before .before .before .before .before .before .before .before .before .before .before .before .before .before .before .before .before .before .before .before .before .before .before) .first-long)
 
 same-length-2 : tie.Need-same-length-2 Inv-loop μ-loop Inv-loop3 μ-loop3 Inv-loop2 μ-loop2
-same-length-2 c = c .before .before .before .before .before .finish .kept .1 .1 .1 .1 .1 .1 .1 .0 ∙ c .before .before .before .before .before .before .before .before .before .before .before .loop2 .inv .kept .second-long ∙ sym (sizes (c .before .before .before .before .before .before .before .before .before .before .before .before .before .before .before .before .before .before .before .before .before .before) .second-long)
+same-length-2 c = c .before .before .before .before .before .finish .kept .1 .1 .1 .1 .1 .1 .1 .1 .1 .0 ∙ c .before .before .before .before .before .before .before .before .before .before .before .before .loop2 .inv .kept .served .second-long ∙ sym (sizes (c .before .before .before .before .before .before .before .before .before .before .before .before .before .before .before .before .before .before .before .before .before .before .before .before .before .before .before .before .before) .second-long)
 
 returns-3 : tie.Need-returns-3 Inv-loop μ-loop Inv-loop3 μ-loop3 Inv-loop2 μ-loop2
 returns-3 c =
-    let m = c .before .before .before .before .before .before .before .before .before .before .before in
-    let s = m .before .before .before .before .before .before .before .before .before .before .before .before .before .before .before .before in
+    let m = c .before .before .before .before .before .before .before .before .before .before .before .before in
+    let s = m .before .before .before .before .before .before .before .before .before .before .before .before .before .before .before .before .before .before .before .before .before .before in
     let a = s .args in
     let l = m .loop2 in
     let f = c .before .before .before .before .before .finish in
     let k = c .answer .ensures in
-    let start = m .before .before .before .before .start in
+    let start = m .before .before .before .before .before .before .start in
+    let background = filled (a .w) (a .h) (a .red) (a .green) (a .blue) in
+    let drawn-list = f .ensures (listed (l .c .list)) (l .inv .kept .served .traced) (many m) in
+    let whole : take (a .list .count) (listed (l .c .list)) ≡ listed (l .c .list) = ap (λ (n : ℕ). take n (listed (l .c .list))) (sym (l .inv .count)) ∙ take-take (l .c .list .count) (l .c .list .count) (l .c .list .items) (omega arith) in
     done-says (a .w) (a .h) (a .red) (a .green) (a .blue) (a .target .now) (a .list) (a .t2) (a .passes) (a .first .now) (a .second .now)
-    (refusal-ranges (a .w) (a .h) (a .red) (a .green) (a .blue) (a .target .now) (a .list) (a .t2) (a .passes) (length (a .first .now)) (length (a .second .now)) (m .before .before .before .before .before .before .before .before .before .loop .ranges)
-    (sym (m .before .before .before .before .before .before .before .before .before .before .before .if1 .left) ∙ m .before .before .before .before .before .before .before .before .before .before .before .before .size-refusal .ensures) (looked (m .before .before .before .before .before .before .before .before)) ∙ sym (m .before .before .before .before .before .before .before .range-refusal .ensures) ∙ m .before .before .before .before .before .before .if2 .left)
-    (c .answer .result) (l .c .list) (l .c .place) (f .last .1 .1 .1 .1 .1 .1 .0) (f .last .1 .1 .1 .1 .1 .1 .1 .0) (ap (λ (r : Refined). r .refusal) k) (ap (λ (r : Refined). r .shapes) k) (sym (listed-length (l .c .list) (l .inv .kept .few) (l .inv .kept .long)))
+    (refusal-ranges (a .w) (a .h) (a .red) (a .green) (a .blue) (a .target .now) (a .list) (a .t2) (a .passes) (length (a .first .now)) (length (a .second .now)) (m .before .before .before .before .before .before .before .before .before .before .before .before .before .before .before .loop .ranges)
+    (sym (m .before .before .before .before .before .before .before .before .before .before .before .before .before .before .before .before .before .if1 .left) ∙ m .before .before .before .before .before .before .before .before .before .before .before .before .before .before .before .before .before .before .size-refusal .ensures) (looked (m .before .before .before .before .before .before .before .before .before .before .before .before .before .before)) ∙ sym (m .before .before .before .before .before .before .before .before .before .before .before .before .before .range-refusal .ensures) ∙ m .before .before .before .before .before .before .before .before .before .before .before .before .if2 .left)
+    (c .answer .result) (l .c .list) (l .c .place) (f .last .1 .1 .1 .1 .1 .1 .1 .1 .0) (f .last .1 .1 .1 .1 .1 .1 .1 .1 .1 .0) (ap (λ (r : Refined). r .refusal) k) (ap (λ (r : Refined). r .shapes) k) (sym (listed-length (l .c .list) (l .inv .kept .few) (l .inv .kept .long)))
     (ap (λ (r : Refined). record { list = listed (l .c .list); place = l .c .place; passes = r .passes; trials = r .trials; acceptances = r .acceptances }) k
-    ∙ between-end (sceneAt s) (sizeAt s) (sumsAt s) (a .list .count) (refined (sceneAt s) (a .passes) (listed (start .result .list))) (l .limit) (l .c) (l .first) (l .second) (l .inv) (c .before .before .before .before .before .before .before .before .before .if3 .left)
+    ∙ between-end (sceneAt s) (sizeAt s) (servedAt s) (a .list .count) (refined (sceneAt s) (a .passes) (listed (start .result .list))) (l .limit) (l .c) (l .first) (aidsOf (l .second) (l .sums) (l .runs) (l .paints)) (l .inv) (c .before .before .before .before .before .before .before .before .before .before .if3 .left)
     ∙ ap (λ (x : Course). refined (sceneAt s) (a .passes) (listed (x .list))) (start .ensures .0))
-    (f .ensures .0) (f .ensures .1)
+    (drawn-list .0 ∙ ap (paintedOn (shapePainted (a .w) (a .h)) background) whole) (drawn-list .1 ∙ ap (paintedOn (shapePainted (a .w) (a .h)) background) whole)
 
 pub refine-shapes-spec : {M : Type 1} → statement M
 refine-shapes-spec =
