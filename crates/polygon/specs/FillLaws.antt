@@ -1,4 +1,4 @@
--- Laws: the rows that fill_runs leaves out have no covered column; the rows that it works out are their runs.
+-- Laws: the rows that fill_quad leaves out have no covered column; the rows that it works out are their runs.
 use mathlib.Core.Path.{_≡_, refl, subst}
 use mathlib.Core.Bool.{Bool, true, false, _||_}
 use mathlib.Core.List.{List, [], _∷_}
@@ -18,10 +18,9 @@ use Rattle.laws.specs.RunLaws.{row-ends, row-past, row-none, runs-blank}
 use Rattle.whole.specs.Whole.{ClampI64Says}
 use Rattle.whole.specs.WholeLaws.{clamp-is}
 use Rattle.polygon.specs.Polygon.{at, area2, areaTest, polygonTests, polygon, corners, polygonPixel, leastOf, greatestOf, FillRunsSays}
-use Rattle.polygon.specs.Steps.{Kept, First, leftAt, rightAt, Room, Rows, Opened, Closed, Signed, RowRun}
+use Rattle.polygon.specs.Steps.{leftAt, rightAt, Room, Rows, RowRun}
 use Rattle.polygon.specs.OneRow.{Done}
-use Rattle.polygon.specs.Around.{row-closed}
-use Rattle.polygon.specs.RowSteps.{rows-then, runs-of-rows}
+use Rattle.polygon.specs.RowSteps.{runs-of-rows}
 use Rattle.polygon.specs.Box.{polygon-in-box}
 
 -- what is not 0 is an area
@@ -106,20 +105,3 @@ module _ (xs ys : List ℤ) (same : length ys ≡ length xs) (w h : ℕ) where
         by y k (yes a) (no b) =
             let r = g .each y a (omega arith) in
             row-ends covers w h y _ _ (omega (arith, clamp-is (greatestOf ys +ℤ pos 1) h past e .0)) (r .first) (r .past)
-
-  -- they were opened, cut by every edge and closed
-  module _ (sign : ℤ) (g : Signed xs ys sign) (first past : ℕ) (opened cut closed : List ℕ) where
-    abbrev Cut : ℕ → ℕ → ℕ → ℕ → ℕ → Type 0
-    Cut y a b left right = Kept (First xs ys sign (pos y) (length xs)) 0 w left right
-
-    done : Rows (Opened w) first past blank opened → Rows (λ y. Kept (First xs ys sign (pos y) (length xs))) first past opened cut → Rows (λ y. Closed) first past cut closed
-        → Rows (Done xs ys w) first past blank closed
-    done o c f =
-        rows-then Cut (λ y. Closed) (Done xs ys w) first past blank cut closed
-        (rows-then (Opened w) (λ y. Kept (First xs ys sign (pos y) (length xs))) Cut first past blank opened cut o c
-        (λ y a b lo hi left right p q. subst (λ (n : ℕ). Kept (First xs ys sign (pos y) (length xs)) 0 n left right) (p .1) (subst (λ (n : ℕ). Kept (First xs ys sign (pos y) (length xs)) n hi left right) (p .0) q)))
-        f (λ y a b lo hi left right p q. row-closed xs ys same sign g y w lo hi left right p q)
-
-    pub fill-all : h ≤ 256 → ClampI64Says (leastOf ys) h first → ClampI64Says (greatestOf ys +ℤ pos 1) h past → Rows (Opened w) first past blank opened
-        → Rows (λ y. Kept (First xs ys sign (pos y) (length xs))) first past opened cut → Rows (λ y. Closed) first past cut closed → FillRunsSays xs ys w h closed
-    fill-all l d e o c f = fill-done first past closed l d e (done o c f)

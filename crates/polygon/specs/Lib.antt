@@ -1,6 +1,6 @@
 -- Document 01, "Which pixels a shape covers": triangles and quads, over any number of corners.
 pub mod Polygon
--- What the steps of fill_runs promise.
+-- What the steps of fill_quad promise.
 pub mod Steps
 pub mod OneRow
 -- Proved of them.

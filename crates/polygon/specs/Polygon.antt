@@ -82,7 +82,7 @@ pub record InBox (xs ys : List ℤ) (p : Point) : Type 0 where
   pub left : leastOf xs ≤ℤ p .px
   pub right : p .px ≤ℤ greatestOf xs
 
--- ---- what fill_runs asks and promises
+-- ---- what is asked of corners, and the runs that are promised of them
 -- three corners or more, within the coordinate range
 pub record InRange (xs ys : List ℤ) : Type 0 where
   pub same : length ys ≡ length xs

@@ -8,7 +8,7 @@ use mathlib.Core.Bool.{Bool}
 use lib.ListN.{length, getD, set, take, length-set}
 use lib.Seq.{getD-set-same, getD-set-other, take-suc, take-all}
 use Rattle.laws.specs.Runs.{rowRun, runsTo, runsOf}
-use Rattle.polygon.specs.Steps.{leftAt, rightAt, Room, Rows, Closed}
+use Rattle.polygon.specs.Steps.{leftAt, rightAt, Room, Rows}
 
 -- ---- one row more
 module _ (out : List ℕ) (y left right : ℕ) where
@@ -79,32 +79,6 @@ module _ (R : ℕ → ℕ → ℕ → ℕ → ℕ → Type 0) (first : ℕ) (bef
     above = r .above;
     below = λ z a b. r .below z a (omega arith);
   }
-
--- ---- a change after a change
-pub rows-then : (R S T : ℕ → ℕ → ℕ → ℕ → ℕ → Type 0) (first past : ℕ) (before between after : List ℕ) → Rows R first past before between → Rows S first past between after
-    → ((y a b c d e f : ℕ) → R y a b c d → S y c d e f → T y a b e f) → Rows T first past before after
-rows-then R S T first past before between after r s t = record {
-  room = s .room;
-  each = λ y a b. t y _ _ _ _ _ _ (r .each y a b) (s .each y a b);
-  above = λ y a. (s .above y a .0 ∙ r .above y a .0, s .above y a .1 ∙ r .above y a .1);
-  below = λ y a b. (s .below y a b .0 ∙ r .below y a b .0, s .below y a b .1 ∙ r .below y a b .1);
-}
-
--- the same by another name
-pub rows-as : (R S : ℕ → ℕ → ℕ → ℕ → ℕ → Type 0) (first past : ℕ) (before after : List ℕ) → ((y a b c d : ℕ) → R y a b c d → S y a b c d) → Rows R first past before after → Rows S first past before after
-rows-as R S first past before after f r = record { room = r .room; each = λ y a b. f y _ _ _ _ (r .each y a b); above = r .above; below = r .below }
-
--- no change
-pub rows-same : (R : ℕ → ℕ → ℕ → ℕ → ℕ → Type 0) (first past : ℕ) (out : List ℕ) → Room out → ((y a b : ℕ) → R y a b a b) → Rows R first past out out
-rows-same R first past out m f = record { room = m; each = λ y a b. f y _ _; above = λ y a. (refl, refl); below = λ y a b. (refl, refl) }
-
--- what a closed row has was read, or is 0
-pub closed-small : (lo hi left right : ℕ) → lo < 65536 → hi < 65536 → Closed lo hi left right → (left < 65536) × (right < 65536)
-closed-small lo hi left right a b c = by (decLe hi lo)
-  where
-    by : Dec (hi ≤ lo) → (left < 65536) × (right < 65536)
-    by (yes h) = (omega (arith, c .none h .0), omega (arith, c .none h .1))
-    by (no h) = let l : lo < hi = omega arith in (omega (arith, c .some l .0), omega (arith, c .some l .1))
 
 -- ---- a list whose rows are the runs is the list of runs
 module _ (p : ℕ → ℕ → Bool) (w h : ℕ) (out : List ℕ) (size : length out ≡ 512) (each : (y : ℕ) → y < 256 → rowRun p w h y ≡ leftAt out y ∷ rightAt out y ∷ []) where

@@ -1,4 +1,4 @@
--- Laws: what the steps of fill_runs rest on: the list's corners by place, the columns of a half line, the ends of a list.
+-- Laws: what the steps of fill_quad rest on: the list's corners by place, the columns of a half line, the ends of a list.
 use mathlib.Core.Path.{_≡_, refl, sym, _∙_, ap, subst}
 use mathlib.Core.Bool.{Bool, true, false, cond}
 use mathlib.Core.List.{List, [], _∷_}

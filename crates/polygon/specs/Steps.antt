@@ -1,4 +1,4 @@
--- Rules: what the private functions below fill_runs ask and promise.
+-- Rules: what the private functions below fill_quad ask and promise.
 use mathlib.Core.Path.{_≡_}
 use mathlib.Core.Bool.{true, cond}
 use mathlib.Core.List.{List}
@@ -68,10 +68,6 @@ pub record Rows (R : ℕ → ℕ → ℕ → ℕ → ℕ → Type 0) (first past
   pub each : (y : ℕ) → first ≤ y → y < past → R y (leftAt before y) (rightAt before y) (leftAt after y) (rightAt after y)
   pub above : (y : ℕ) → y < first → (leftAt after y ≡ leftAt before y) × (rightAt after y ≡ rightAt before y)
   pub below : (y : ℕ) → first ≤ y → past ≤ y → (leftAt after y ≡ leftAt before y) × (rightAt after y ≡ rightAt before y)
-
--- all w columns
-abbrev pub Opened : ℕ → ℕ → ℕ → ℕ → ℕ → ℕ → Type 0
-Opened w y lo hi left right = (left ≡ 0) × (right ≡ w)
 
 -- as it was, and 0, 0 where no column is left
 pub record Closed (lo hi left right : ℕ) : Type 0 where

@@ -1,22 +1,19 @@
-// The runs of a polygon's rows: document 01's triangles and quads, once over the number of corners.
-// A row is the intersection of its edges' half planes, as in integral.rs; edge by edge, all rows of the shape for each.
+// The runs of a polygon's rows: document 01's triangles and quads. The rule is one over the number of corners; the code has four.
+// A row is the intersection of its edges' half planes, as in integral.rs, and is written once.
 ghost use mathlib.Core.Path.{_≡_};
 ghost use Prim.Native.Nat.{_<_, _≤_, _+_, _*_, max};
-ghost use lib.IntN.{pos, _+ℤ_, _-ℤ_, _*ℤ_};
-ghost use lib.ListN.{length, set};
+ghost use lib.IntN.{pos, _-ℤ_};
+ghost use lib.ListN.{set};
 ghost use Rattle.laws.specs.Blank.{Blank};
 ghost use Rattle.laws.specs.Bound.{Bounded};
 ghost use Rattle.refusal.specs.Refusals.{Sized};
 ghost use Rattle.polygon.specs.Polygon.{
   at,
   side,
-  area2,
-  corners,
   leastOf,
   greatestOf,
   InRange,
   ExtentOfSays,
-  FillRunsSays,
 };
 ghost use Rattle.polygon.specs.OneRow.{four, Done, FillQuadSays};
 ghost use Rattle.polygon.specs.Steps.{
@@ -24,14 +21,11 @@ ghost use Rattle.polygon.specs.Steps.{
   RowRun,
   Placed,
   signOf,
-  nextOf,
   Kept,
   Above,
   Inner,
-  First,
   Room,
   Rows,
-  Opened,
   Closed,
 };
 
@@ -62,14 +56,6 @@ fn side(xi: i32, yi: i32, xj: i32, yj: i32, x: i32, y: i32) -> i64
     ensures { λ r. ⌜ r ≡ side (at xi yi) (at xj yj) (at x y) ⌝ }
 {
     diff(xj, xi) * diff(y, yi) - diff(yj, yi) * diff(x, xi)
-}
-
-// From the first three corners, also for a quad.
-fn area2(xs: &[i32], ys: &[i32]) -> i64
-    requires { ⌜ InRange (now xs) (now ys) ⌝ }
-    ensures { λ r. ⌜ r ≡ area2 (corners (now (xs .entry)) (now (ys .entry))) ⌝ }
-{
-    side(xs[0], ys[0], xs[1], ys[1], xs[2], ys[2])
 }
 
 // What turns an edge's side so that it is not negative on the inner side.
@@ -104,17 +90,6 @@ pub fn extent_of(zs: &[i32]) -> Extent
         least: least,
         greatest: greatest,
     }
-}
-
-// The corner after i, of n.
-fn next(i: usize, n: usize) -> usize
-    requires { ⌜ i < n ⌝ }
-    ensures { λ r. ⌜ (r ≡ nextOf n i) × (r < n) ⌝ }
-{
-    if i + 1 < n {
-        return i + 1;
-    }
-    0
 }
 
 // Of the columns lo up to hi, those at which a * x + c is not negative.
@@ -160,95 +135,7 @@ fn put_row(y: usize, left: usize, right: usize, out: &mut [u16; 512])
     out[place + 1] = right as u16;
 }
 
-// All columns, in the rows first up to past.
-fn open_rows(w: usize, first: usize, past: usize, out: &mut [u16; 512])
-    requires columns { ⌜ w ≤ 256 ⌝ }
-    requires rows { ⌜ past ≤ 256 ⌝ }
-    requires places { ⌜ Room (now out) ⌝ }
-    ensures { λ _. ⌜ Rows (Opened w) first past (now (out .entry)) (now (out .exit)) ⌝ }
-{
-    for y in first..past {
-        put_row(y, 0, w, out);
-    }
-}
-
-// Of the columns that each row has left, those at which a * x + base + step * y is not negative.
-fn cut_rows(a: i32, base: i32, step: i32, first: usize, past: usize, out: &mut [u16; 512])
-    requires slope { ⌜ Bounded 16382 a ⌝ }
-    requires base { ⌜ Bounded 500000000 base ⌝ }
-    requires step { ⌜ Bounded 16382 step ⌝ }
-    requires rows { ⌜ past ≤ 256 ⌝ }
-    requires places { ⌜ Room (now out) ⌝ }
-    ensures { λ _. ⌜ Rows (λ y. Kept (Above a (base +ℤ step *ℤ pos y))) first past (now (out .entry)) (now (out .exit)) ⌝ }
-{
-    for y in first..past {
-        let place = y * 2;
-        let run = half_line(
-            a,
-            base + step * (y as i32),
-            out[place] as usize,
-            out[place + 1] as usize,
-        );
-        put_row(y, run.left, run.right, out);
-    }
-}
-
-// The same for the edge from i to j: what is left is on its inner side.
-fn cut_edge(
-    xi: i32,
-    yi: i32,
-    xj: i32,
-    yj: i32,
-    sign: i32,
-    first: usize,
-    past: usize,
-    out: &mut [u16; 512],
-)
-    requires from { ⌜ Placed (at xi yi) ⌝ }
-    requires to { ⌜ Placed (at xj yj) ⌝ }
-    requires sign { ⌜ Bounded 1 sign ⌝ }
-    requires rows { ⌜ past ≤ 256 ⌝ }
-    requires places { ⌜ Room (now out) ⌝ }
-    ensures { λ _. ⌜ Rows (λ y. Kept (Inner sign (at xi yi) (at xj yj) (pos y))) first past (now (out .entry)) (now (out .exit)) ⌝ }
-{
-    let base = (yj - yi) * xi - (xj - xi) * yi;
-    cut_rows(
-        sign * (yi - yj),
-        sign * base,
-        sign * (xj - xi),
-        first,
-        past,
-        out,
-    );
-}
-
-// The same for every edge. Edge by edge, so that what is an edge's own is worked out once and not in each row.
-fn cut_edges(xs: &[i32], ys: &[i32], sign: i32, first: usize, past: usize, out: &mut [u16; 512])
-    requires corners { ⌜ InRange (now xs) (now ys) ⌝ }
-    requires sign { ⌜ Bounded 1 sign ⌝ }
-    requires rows { ⌜ past ≤ 256 ⌝ }
-    requires places { ⌜ Room (now out) ⌝ }
-    ensures { λ _. ⌜ Rows (λ y. Kept (First (now (xs .entry)) (now (ys .entry)) sign (pos y) (length (now (xs .entry))))) first past (now (out .entry)) (now (out .exit)) ⌝ }
-{
-    for i in 0..xs.len() {
-        let j = next(i, xs.len());
-        cut_edge(xs[i], ys[i], xs[j], ys[j], sign, first, past, out);
-    }
-}
-
 // A row of which no column is left is 0, 0.
-fn close_rows(first: usize, past: usize, out: &mut [u16; 512])
-    requires rows { ⌜ past ≤ 256 ⌝ }
-    requires places { ⌜ Room (now out) ⌝ }
-    ensures { λ _. ⌜ Rows (λ y. Closed) first past (now (out .entry)) (now (out .exit)) ⌝ }
-{
-    for y in first..past {
-        let place = y * 2;
-        let run = closed(out[place] as usize, out[place + 1] as usize);
-        put_row(y, run.left, run.right, out);
-    }
-}
-
 fn closed(left: usize, right: usize) -> Run
     ensures { λ r. ⌜ Closed left right (r .left) (r .right) ⌝ }
 {
@@ -259,25 +146,6 @@ fn closed(left: usize, right: usize) -> Run
         left: left,
         right: right,
     }
-}
-
-// Writes the runs of the rows that the corners reach; the others have no column, and stay 0, 0.
-pub fn fill_runs(xs: &[i32], ys: &[i32], w: usize, h: usize, out: &mut [u16; 512])
-    requires corners { ⌜ InRange (now xs) (now ys) ⌝ }
-    requires size { ⌜ Sized w h ⌝ }
-    requires blank { ⌜ Blank (now out) ⌝ }
-    ensures { λ r. ⌜ FillRunsSays (now (xs .entry)) (now (ys .entry)) w h (now (out .exit)) ⌝ }
-{
-    let area = area2(xs, ys);
-    if area == 0 {
-        return;
-    }
-    let rows = extent_of(ys);
-    let first = whole::clamp_i64(rows.least as i64, h);
-    let past = whole::clamp_i64(rows.greatest as i64 + 1, h);
-    open_rows(w, first, past, out);
-    cut_edges(xs, ys, sign_of(area), first, past, out);
-    close_rows(first, past, out);
 }
 
 // Of the columns lo up to hi of row y, those on the inner side of the edge from i to j.
@@ -363,7 +231,8 @@ fn highest(a: i32, b: i32, c: i32, d: i32) -> i32
     whole::max_i32(a, whole::max_i32(b, whole::max_i32(c, d)))
 }
 
-// The same of four corners on plain numbers, row by row: a row is worked out by all edges at once, and written once.
+// Writes the runs of the rows that four corners reach; the others have no column, and stay 0, 0. A triangle has its last corner twice:
+// from a corner to itself there is no edge.
 pub fn fill_quad(
     x0: i32,
     y0: i32,

@@ -1,4 +1,4 @@
-// Runs fill_runs at document 01's figures, and at shapes that tell columns from rows. A row is written left..right.
+// Runs fill_quad at document 01's figures, and at shapes that tell columns from rows. A row is written left..right.
 ghost use Rattle.refusal.specs.Refusals.{Sized};
 ghost use Rattle.polygon.specs.Polygon.{at};
 ghost use Rattle.polygon.specs.Steps.{Placed};
@@ -33,10 +33,8 @@ fn triangle(x0: i32, y0: i32, x1: i32, y1: i32, x2: i32, y2: i32, w: usize, h: u
     requires third { ⌜ Placed (at x2 y2) ⌝ }
     requires size { ⌜ Sized w h ⌝ }
 {
-    let xs: [i32; 3] = [x0, x1, x2];
-    let ys: [i32; 3] = [y0, y1, y2];
     let mut out: [u16; 512] = [0; 512];
-    polygon::fill_runs(&xs, &ys, w, h, &mut out);
+    polygon::fill_quad(x0, y0, x1, y1, x2, y2, x2, y2, w, h, &mut out);
     show_runs(&out);
 }
 
@@ -47,10 +45,8 @@ fn quad(x0: i32, y0: i32, x1: i32, y1: i32, x2: i32, y2: i32, x3: i32, y3: i32, 
     requires fourth { ⌜ Placed (at x3 y3) ⌝ }
     requires size { ⌜ Sized w h ⌝ }
 {
-    let xs: [i32; 4] = [x0, x1, x2, x3];
-    let ys: [i32; 4] = [y0, y1, y2, y3];
     let mut out: [u16; 512] = [0; 512];
-    polygon::fill_runs(&xs, &ys, w, h, &mut out);
+    polygon::fill_quad(x0, y0, x1, y1, x2, y2, x3, y3, w, h, &mut out);
     show_runs(&out);
 }
 

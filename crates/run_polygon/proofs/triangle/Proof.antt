@@ -1,4 +1,4 @@
--- `run_polygon::triangle` calls fill_runs with corners and sizes that it was given in range, and zeros.
+-- `run_polygon::triangle` calls fill_quad with corners and sizes that it was given in range, and zeros.
 use borrow.Author.Needs.{needs}
 use mathlib.Core.Path.{refl}
 use lib.Dec.{lit≤}
@@ -9,22 +9,16 @@ use Rattle.polygon.specs.PolygonLaws.{in-range}
 use Rattle.run_polygon.proofs.triangle.Statement.{statement}
 use Rattle.run_polygon.proofs.triangle.Tie as tie
 
-slice-aggregate-fill-runs : tie.Need-slice-aggregate-fill-runs
-slice-aggregate-fill-runs c = search needs
-
-slice-aggregate-fill-runs-2 : tie.Need-slice-aggregate-fill-runs-2
-slice-aggregate-fill-runs-2 c = search needs
-
-fill-runs-requires : tie.Need-fill-runs-requires
+fill-quad-requires : tie.Need-fill-quad-requires
 unfolding blank
-fill-runs-requires c κs =
+fill-quad-requires c κs =
     let s = c .before .before .before in
     let p0 = s .pre .0 in
     let p1 = s .pre .1 .0 in
     let p2 = s .pre .1 .1 .0 in (
       in-range _ _ refl (lit≤ tt)
-          (arg tt (ldw w32 tt (p0 .x)), (arg tt (ldw w32 tt (p1 .x)), (arg tt (ldw w32 tt (p2 .x)), tt)))
-          (arg tt (ldw w32 tt (p0 .y)), (arg tt (ldw w32 tt (p1 .y)), (arg tt (ldw w32 tt (p2 .y)), tt))),
+          (arg tt (ldw w32 tt (p0 .x)), (arg tt (ldw w32 tt (p1 .x)), (arg tt (ldw w32 tt (p2 .x)), (arg tt (ldw w32 tt (p2 .x)), tt))))
+          (arg tt (ldw w32 tt (p0 .y)), (arg tt (ldw w32 tt (p1 .y)), (arg tt (ldw w32 tt (p2 .y)), (arg tt (ldw w32 tt (p2 .y)), tt)))),
       (s .pre .1 .1 .1, refl),
     )
 
@@ -38,8 +32,6 @@ pub triangle-spec : {M : Type 1} → statement M
 triangle-spec =
     tie.close
     (tie.spec
-    slice-aggregate-fill-runs
-    slice-aggregate-fill-runs-2
-    fill-runs-requires
+    fill-quad-requires
     show-runs-requires
     returns)
