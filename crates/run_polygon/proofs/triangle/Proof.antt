@@ -12,7 +12,7 @@ use Rattle.run_polygon.proofs.triangle.Tie as tie
 fill-quad-requires : tie.Need-fill-quad-requires
 unfolding blank
 fill-quad-requires c κs =
-    let s = c .before .before .before in
+    let s = c .before in
     let p0 = s .pre .0 in
     let p1 = s .pre .1 .0 in
     let p2 = s .pre .1 .1 .0 in (
