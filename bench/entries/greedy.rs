@@ -50,7 +50,7 @@ fn best(changes: impl Iterator<Item = f32>) -> usize {
 
 fn our_fit(s: &Scene, canvas: &mut Vec<f32>, table: &mut Vec<f64>) -> u64 {
     canvas.copy_from_slice(&s.background);
-    assert_eq!(ours::probe_build(&s.target, canvas, s.w, s.h, table), 0);
+    assert_eq!(ours::sillbadger_build(s.w as u32, s.h as u32, &s.target, canvas, table), 0);
     for group in s.proposals.chunks(PROPOSALS) {
         let score = |c: &[i32; 6], table: &[f64]| {
             ours::probe_span_score(2, c[0], c[1], c[2], c[3], c[4], c[5], 0, 0, true, OPACITY, 0, &s.levels, s.w, s.h, table)

@@ -1,6 +1,6 @@
 //! The paint call beside the Rust's painting, row range and update of the table, for one shape. Both sides read the same
 //! shapes in turn. Ours tests sizes, lengths, places, opacity and colour; the Rust tests nothing.
-//! Needs: probe_paint_circle probe_paint_triangle probe_paint_quad
+//! Needs: sillbadger_paint
 
 use crate::generator::Draw;
 use crate::harness::{taken, Entry};
@@ -12,6 +12,8 @@ use oracle::shape::triangle::probe::triangle_row_range;
 
 const SIDE: usize = 256;
 const MANY: usize = 64;
+// a call far off takes some nanoseconds: so many that setting the picture back counts little
+const MANY_FAR: usize = 65536;
 const A: f32 = 0.3;
 const P: [f32; 3] = [0.1, 0.7, 0.9];
 
@@ -42,12 +44,9 @@ fn shape(d: &mut Draw, kind: usize, reach: Reach) -> [i32; 8] {
 }
 
 fn paint(kind: usize, c: &[i32; 8], target: &[f32], canvas: &mut [f32], table: &mut [f64]) {
-    let s = SIDE;
-    match kind {
-        1 => ours::probe_paint_circle(c[0], c[1], c[2], A, P[0], P[1], P[2], s, s, target, canvas, table),
-        2 => ours::probe_paint_triangle(c[0], c[1], c[2], c[3], c[4], c[5], A, P[0], P[1], P[2], s, s, target, canvas, table),
-        _ => ours::probe_paint_quad(c[0], c[1], c[2], c[3], c[4], c[5], c[6], c[7], A, P[0], P[1], P[2], s, s, target, canvas, table),
-    };
+    let numbers = [3, 6, 8][kind - 1];
+    let side = SIDE as u32;
+    ours::sillbadger_paint(side, side, &c[..numbers], A, P[0], P[1], P[2], target, canvas, table);
 }
 
 fn rust_paint(kind: usize, c: &[i32; 8], target: &[f32], canvas: &mut [f32], table: &mut Integral) {
@@ -74,7 +73,8 @@ fn sampled(canvas: &[f32], table: &[f64]) -> u64 {
 
 fn entry(name: &'static str, kind: usize, reach: Reach) -> Entry {
     let mut d = Draw::named(1, "bench paint");
-    let list: Vec<_> = (0..MANY).map(|_| shape(&mut d, kind, reach)).collect();
+    let many = if matches!(reach, Reach::Far) { MANY_FAR } else { MANY };
+    let list: Vec<_> = (0..many).map(|_| shape(&mut d, kind, reach)).collect();
     let again = list.clone();
     let target: Vec<f32> = (0..SIDE * SIDE * 3).map(|_| d.below(256) as f32 / 255.0).collect();
     let start: Vec<f32> = (0..SIDE * SIDE * 3).map(|_| d.below(256) as f32 / 255.0).collect();
@@ -83,7 +83,7 @@ fn entry(name: &'static str, kind: usize, reach: Reach) -> Entry {
     let mut table = probe::data(&rust).to_vec();
     Entry {
         name,
-        units: MANY as u64,
+        units: many as u64,
         // the picture begins as it was, so that every run is the same
         ours: Box::new(move || {
             canvas.copy_from_slice(&start);

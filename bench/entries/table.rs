@@ -1,6 +1,6 @@
 //! The table: a build of the whole picture, and an update of all rows, for one pixel.
 //! Ours tests every pixel to be within 0..1 before it builds; the Rust allocates its table.
-//! Needs: probe_build probe_update_canvas_rows
+//! Needs: sillbadger_build sillbadger_update
 
 use crate::generator::Draw;
 use crate::harness::{taken, Entry};
@@ -28,7 +28,7 @@ fn sized(build: &'static str, update: &'static str, w: usize, h: usize) -> [Entr
             name: build,
             units: (w * h) as u64,
             ours: Box::new(move || {
-                ours::probe_build(&t, &c, w, h, &mut table);
+                ours::sillbadger_build(w as u32, h as u32, &t, &c, &mut table);
                 sampled(&table)
             }),
             rust: Box::new(move || sampled(probe::data(&Integral::build(&t2, &c2, h as u32, w as u32)))),
@@ -37,7 +37,7 @@ fn sized(build: &'static str, update: &'static str, w: usize, h: usize) -> [Entr
             name: update,
             units: (w * h) as u64,
             ours: Box::new(move || {
-                ours::probe_update_canvas_rows(&t3, &c3, w, h, &mut kept, 0, h as i32 - 1);
+                ours::sillbadger_update(w as u32, h as u32, &t3, &c3, 0, h as i32 - 1, &mut kept);
                 sampled(&kept)
             }),
             rust: Box::new(move || {

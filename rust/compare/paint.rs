@@ -1,6 +1,6 @@
 //! Paint calls in a row, refused ones between: number, every bit of the picture and of the table after every call,
 //! beside the Rust's painting, row range and update.
-//! Needs: probe_paint_circle probe_paint_triangle probe_paint_quad
+//! Needs: sillbadger_paint
 
 use crate::generator::Draw;
 use crate::harness::{unequal, Comparison};
@@ -19,14 +19,9 @@ struct Call {
 }
 
 fn paint(c: &Call, target: &[f32], canvas: &mut [f32], table: &mut [f64]) -> u8 {
-    let (w, h, z) = (c.shape[0] as usize, c.shape[1] as usize, i32s(&c.shape[3..]));
-    let (a, p) = (c.a, c.p);
+    let (w, h, shape) = (c.shape[0] as u32, c.shape[1] as u32, i32s(&c.shape[3..]));
     let (target, canvas, table) = (&target[..c.lent[0]], &mut canvas[..c.lent[1]], &mut table[..c.lent[2]]);
-    match c.shape[2] {
-        1 => ours::probe_paint_circle(z[0], z[1], z[2], a, p[0], p[1], p[2], w, h, target, canvas, table),
-        2 => ours::probe_paint_triangle(z[0], z[1], z[2], z[3], z[4], z[5], a, p[0], p[1], p[2], w, h, target, canvas, table),
-        _ => ours::probe_paint_quad(z[0], z[1], z[2], z[3], z[4], z[5], z[6], z[7], a, p[0], p[1], p[2], w, h, target, canvas, table),
-    }
+    ours::sillbadger_paint(w, h, &shape, c.a, c.p[0], c.p[1], c.p[2], target, canvas, table)
 }
 
 /// The lowest number of document 01's table that holds.

@@ -1,5 +1,5 @@
 //! The table: built and updated by ours and by the Rust, every number's bits; and refusals.
-//! Needs: probe_build probe_update_canvas_rows
+//! Needs: sillbadger_build sillbadger_update
 
 use crate::generator::Draw;
 use crate::harness::{unequal, Comparison};
@@ -46,7 +46,7 @@ fn build_differs(case: &[i64]) -> Option<(String, String)> {
     }
     let before = stale((places(pw, ph) as i64 + case[5]).max(0) as usize);
     let mut table = before.clone();
-    let answer = ours::probe_build(&target, &canvas, w as usize, h as usize, &mut table);
+    let answer = ours::sillbadger_build(w as u32, h as u32, &target, &canvas, &mut table);
     let number = if size {
         1
     } else if target.len() as i64 != w * h * 3 || canvas.len() as i64 != w * h * 3 || table.len() != places(w, h) {
@@ -71,7 +71,7 @@ fn update_differs(case: &[i64]) -> Option<(String, String)> {
     let mut rust = Integral::build(&target, &canvas, h as u32, w as u32);
     let mut table = probe::data(&rust).to_vec();
     rust.update_canvas_rows(&target, &changed, case[3] as i32, case[4] as i32);
-    let answer = ours::probe_update_canvas_rows(&target, &changed, w as usize, h as usize, &mut table, case[3] as i32, case[4] as i32);
+    let answer = ours::sillbadger_update(w as u32, h as u32, &target, &changed, case[3] as i32, case[4] as i32, &mut table);
     unequal(answer, 0).or_else(|| first_difference(&table, probe::data(&rust)))
 }
 
