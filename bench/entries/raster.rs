@@ -1,7 +1,7 @@
 //! Counting by runs beside the Rust's span sums, painting beside its painting, and fill, mean and total.
 //! Ours tests sizes, lengths and places; the Rust tests nothing, and its span sums read the table.
 //! Needs: sillbadger_count_circle sillbadger_count_triangle sillbadger_count_quad
-//! Needs: probe_blend_circle probe_blend_triangle probe_blend_quad probe_filled_canvas probe_mean_rgb probe_sse_total
+//! Needs: probe_blend probe_filled_canvas probe_mean_rgb probe_sse_total
 
 use crate::generator::Draw;
 use crate::harness::{taken, Entry};
@@ -89,12 +89,7 @@ const A: f32 = 0.3;
 const P: [f32; 3] = [0.1, 0.7, 0.9];
 
 fn blend(kind: usize, c: &[i32; 8], canvas: &mut [f32]) {
-    let s = SIDE;
-    match kind {
-        1 => ours::probe_blend_circle(s, s, c[0], c[1], c[2], A, P[0], P[1], P[2], canvas),
-        2 => ours::probe_blend_triangle(s, s, c[0], c[1], c[2], c[3], c[4], c[5], A, P[0], P[1], P[2], canvas),
-        _ => ours::probe_blend_quad(s, s, c[0], c[1], c[2], c[3], c[4], c[5], c[6], c[7], A, P[0], P[1], P[2], canvas),
-    };
+    ours::probe_blend(SIDE, SIDE, &c[..[3, 6, 8][kind - 1]], A, P[0], P[1], P[2], canvas);
 }
 
 fn rust_blend(kind: usize, c: &[i32; 8], canvas: &mut [f32]) {

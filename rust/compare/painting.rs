@@ -1,6 +1,5 @@
 //! Painting: the very pixels, every bit, ours and the Rust's; the row reach; and refusals.
-//! Needs: probe_blend_circle probe_blend_triangle probe_blend_quad
-//! Needs: probe_reach_circle probe_reach_triangle probe_reach_quad
+//! Needs: probe_blend probe_reach
 
 use crate::generator::Draw;
 use crate::harness::{unequal, Comparison};
@@ -11,21 +10,11 @@ use crate::values::{channel, opacity, picture};
 use std::cell::RefCell;
 
 pub fn blend(case: &[i64], a: f32, p: [f32; 3], canvas: &mut [f32]) -> u8 {
-    let (w, h, c) = (case[0] as usize, case[1] as usize, i32s(&case[3..]));
-    match case[2] {
-        1 => ours::probe_blend_circle(w, h, c[0], c[1], c[2], a, p[0], p[1], p[2], canvas),
-        2 => ours::probe_blend_triangle(w, h, c[0], c[1], c[2], c[3], c[4], c[5], a, p[0], p[1], p[2], canvas),
-        _ => ours::probe_blend_quad(w, h, c[0], c[1], c[2], c[3], c[4], c[5], c[6], c[7], a, p[0], p[1], p[2], canvas),
-    }
+    ours::probe_blend(case[0] as usize, case[1] as usize, &i32s(&case[3..]), a, p[0], p[1], p[2], canvas)
 }
 
 pub fn reach(case: &[i64]) -> ProbedReach {
-    let (w, h, c) = (case[0] as usize, case[1] as usize, i32s(&case[3..]));
-    match case[2] {
-        1 => ours::probe_reach_circle(w, h, c[0], c[1], c[2]),
-        2 => ours::probe_reach_triangle(w, h, c[0], c[1], c[2], c[3], c[4], c[5]),
-        _ => ours::probe_reach_quad(w, h, c[0], c[1], c[2], c[3], c[4], c[5], c[6], c[7]),
-    }
+    ours::probe_reach(case[0] as usize, case[1] as usize, &i32s(&case[3..]))
 }
 
 /// The first number at which two pictures differ, with both numbers' bits.

@@ -1,10 +1,12 @@
 -- Laws: two answers of a probe are equal.
 use mathlib.Core.Path.{_≡_, refl, sym, _∙_}
 use mathlib.Core.List.{List}
+use mathlib.Core.Option.{Option, none, some}
 use Prim.Native.Nat.{ℕ}
 use lib.IntN.{ℤ}
 use lib.Ieee.{Float}
 use Rattle.cover.specs.declared.Kind.{Kind}
+use Rattle.crossing.specs.Outlines.{kindOf}
 use Rattle.picture.specs.PixelLaws.{FilledCanvasSays-unique}
 use Rattle.probe_picture.specs.declared.ProbedMean.{ProbedMean}
 use Rattle.probe_picture.specs.declared.ProbedTotal.{ProbedTotal}
@@ -14,12 +16,9 @@ use Rattle.probe_picture.specs.Probes.{
   ProbeFilledCanvasSays,
   ProbeMeanRgbSays,
   ProbeSseTotalSays,
-  ProbeBlendCircleSays,
-  ProbeBlendTriangleSays,
-  ProbeBlendQuadSays,
-  ProbeReachCircleSays,
-  ProbeReachTriangleSays,
-  ProbeReachQuadSays,
+  Blends,
+  ProbeBlendSays,
+  ProbeReachSays,
 }
 
 pub ProbeFilledCanvasSays-unique : (w h : ℕ) (red green blue : Float) (old : List Float) (r s : ℕ) (a b : List Float)
@@ -39,23 +38,12 @@ blended-unique kind opacity red green blue w h old r s a b p q =
     (e, p .left ∙ rw e (sym (q .left)))
 
 module _ (opacity red green blue : Float) (w h : ℕ) (old : List Float) (r s : ℕ) (a b : List Float) where
-  pub ProbeBlendCircleSays-unique : (cx cy q : ℤ) → ProbeBlendCircleSays w h cx cy q opacity red green blue old r a → ProbeBlendCircleSays w h cx cy q opacity red green blue old s b → (r ≡ s) × (a ≡ b)
-  ProbeBlendCircleSays-unique cx cy q = blended-unique _ opacity red green blue w h old r s a b
+  blends-one : (kind : Option Kind) → Blends kind opacity red green blue w h old r a → Blends kind opacity red green blue w h old s b → (r ≡ s) × (a ≡ b)
+  blends-one none p q = (p .0 ∙ sym (q .0), p .1 ∙ sym (q .1))
+  blends-one (some kind) p q = blended-unique kind opacity red green blue w h old r s a b p q
 
-  pub ProbeBlendTriangleSays-unique : (x0 y0 x1 y1 x2 y2 : ℤ) → ProbeBlendTriangleSays w h x0 y0 x1 y1 x2 y2 opacity red green blue old r a
-      → ProbeBlendTriangleSays w h x0 y0 x1 y1 x2 y2 opacity red green blue old s b → (r ≡ s) × (a ≡ b)
-  ProbeBlendTriangleSays-unique x0 y0 x1 y1 x2 y2 = blended-unique _ opacity red green blue w h old r s a b
+  pub ProbeBlendSays-unique : (shape : List ℤ) → ProbeBlendSays w h shape opacity red green blue old r a → ProbeBlendSays w h shape opacity red green blue old s b → (r ≡ s) × (a ≡ b)
+  ProbeBlendSays-unique shape = blends-one (kindOf shape)
 
-  pub ProbeBlendQuadSays-unique : (x0 y0 x1 y1 x2 y2 x3 y3 : ℤ) → ProbeBlendQuadSays w h x0 y0 x1 y1 x2 y2 x3 y3 opacity red green blue old r a
-      → ProbeBlendQuadSays w h x0 y0 x1 y1 x2 y2 x3 y3 opacity red green blue old s b → (r ≡ s) × (a ≡ b)
-  ProbeBlendQuadSays-unique x0 y0 x1 y1 x2 y2 x3 y3 = blended-unique _ opacity red green blue w h old r s a b
-
-module _ (w h : ℕ) (a b : ProbedReach) where
-  pub ProbeReachCircleSays-unique : (cx cy r : ℤ) → ProbeReachCircleSays w h cx cy r a → ProbeReachCircleSays w h cx cy r b → a ≡ b
-  ProbeReachCircleSays-unique cx cy r p q = p ∙ sym q
-
-  pub ProbeReachTriangleSays-unique : (x0 y0 x1 y1 x2 y2 : ℤ) → ProbeReachTriangleSays w h x0 y0 x1 y1 x2 y2 a → ProbeReachTriangleSays w h x0 y0 x1 y1 x2 y2 b → a ≡ b
-  ProbeReachTriangleSays-unique x0 y0 x1 y1 x2 y2 p q = p ∙ sym q
-
-  pub ProbeReachQuadSays-unique : (x0 y0 x1 y1 x2 y2 x3 y3 : ℤ) → ProbeReachQuadSays w h x0 y0 x1 y1 x2 y2 x3 y3 a → ProbeReachQuadSays w h x0 y0 x1 y1 x2 y2 x3 y3 b → a ≡ b
-  ProbeReachQuadSays-unique x0 y0 x1 y1 x2 y2 x3 y3 p q = p ∙ sym q
+pub ProbeReachSays-unique : (w h : ℕ) (shape : List ℤ) (r s : ProbedReach) → ProbeReachSays w h shape r → ProbeReachSays w h shape s → r ≡ s
+ProbeReachSays-unique w h shape r s p q = p ∙ sym q

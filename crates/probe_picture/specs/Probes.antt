@@ -2,6 +2,7 @@
 use mathlib.Core.Path.{_≡_}
 use mathlib.Core.Bool.{cond}
 use mathlib.Core.List.{List, [], _∷_}
+use mathlib.Core.Option.{Option, none, some}
 use Prim.Native.Nat.{ℕ}
 use lib.Dec.{eqb}
 use lib.IntN.{ℤ, pos}
@@ -12,9 +13,9 @@ use Rattle.float.specs.Within.{nought}
 use Rattle.refusal.specs.Refusals.{lowest, sizeIf, lengthIf, placeIf, badSize}
 use Rattle.refusal.specs.Lengths.{badPicture}
 use Rattle.cover.specs.declared.Kind.{Kind}
-use Rattle.cover.specs.declared.Kind.the-variants.{Circle, Triangle, Quad}
 use Rattle.cover.specs.declared.Reach.{Reach}
 use Rattle.cover.specs.Cover.{badPlaces, refusalOf, reach}
+use Rattle.crossing.specs.Outlines.{kindOf}
 use Rattle.picture.specs.declared.Colour.{Colour}
 use Rattle.picture.specs.Painting.{painted}
 use Rattle.picture.specs.Pixels.{FilledCanvasSays, noColour, meanOf, meanRefusal, totalOf, totalRefusal}
@@ -47,14 +48,13 @@ pub record Blended (kind : Kind) (opacity red green blue : Float) (w h : ℕ) (o
   pub number : r ≡ blendRefusal kind w h (length old)
   pub left : new ≡ cond (eqb r 0) (painted kind opacity red green blue w h old) old
 
-abbrev pub ProbeBlendCircleSays : ℕ → ℕ → ℤ → ℤ → ℤ → Float → Float → Float → Float → List Float → ℕ → List Float → Type 0
-ProbeBlendCircleSays w h cx cy r opacity red green blue old a new = Blended (Circle cx cy r) opacity red green blue w h old a new
+-- a shape crosses as a slice of coordinates; another length than 3, 6, 8 is refusal 2
+abbrev pub Blends : Option Kind → Float → Float → Float → Float → ℕ → ℕ → List Float → ℕ → List Float → Type 0
+Blends none opacity red green blue w h old r new = (r ≡ 2) × (new ≡ old)
+Blends (some kind) opacity red green blue w h old r new = Blended kind opacity red green blue w h old r new
 
-abbrev pub ProbeBlendTriangleSays : ℕ → ℕ → ℤ → ℤ → ℤ → ℤ → ℤ → ℤ → Float → Float → Float → Float → List Float → ℕ → List Float → Type 0
-ProbeBlendTriangleSays w h x0 y0 x1 y1 x2 y2 opacity red green blue old a new = Blended (Triangle x0 y0 x1 y1 x2 y2) opacity red green blue w h old a new
-
-abbrev pub ProbeBlendQuadSays : ℕ → ℕ → ℤ → ℤ → ℤ → ℤ → ℤ → ℤ → ℤ → ℤ → Float → Float → Float → Float → List Float → ℕ → List Float → Type 0
-ProbeBlendQuadSays w h x0 y0 x1 y1 x2 y2 x3 y3 opacity red green blue old a new = Blended (Quad x0 y0 x1 y1 x2 y2 x3 y3) opacity red green blue w h old a new
+abbrev pub ProbeBlendSays : ℕ → ℕ → List ℤ → Float → Float → Float → Float → List Float → ℕ → List Float → Type 0
+ProbeBlendSays w h shape opacity red green blue old r new = Blends (kindOf shape) opacity red green blue w h old r new
 
 -- ---- the row reach
 abbrev pub noReach : Reach
@@ -66,11 +66,12 @@ probedReach a = record { number = a .number; first = a .value .first; last = a .
 abbrev pub reachOf : Kind → ℕ → ℕ → ProbedReach
 reachOf kind w h = probedReach (answer (refusalOf kind w h) (reach kind h) noReach)
 
-abbrev pub ProbeReachCircleSays : ℕ → ℕ → ℤ → ℤ → ℤ → ProbedReach → Type 0
-ProbeReachCircleSays w h cx cy r a = a ≡ reachOf (Circle cx cy r) w h
+abbrev pub unreached : ℕ → ProbedReach
+unreached number = record { number = number; first = pos 0; last = pos 0 }
 
-abbrev pub ProbeReachTriangleSays : ℕ → ℕ → ℤ → ℤ → ℤ → ℤ → ℤ → ℤ → ProbedReach → Type 0
-ProbeReachTriangleSays w h x0 y0 x1 y1 x2 y2 a = a ≡ reachOf (Triangle x0 y0 x1 y1 x2 y2) w h
+abbrev pub reachIn : Option Kind → ℕ → ℕ → ProbedReach
+reachIn none w h = unreached 2
+reachIn (some kind) w h = reachOf kind w h
 
-abbrev pub ProbeReachQuadSays : ℕ → ℕ → ℤ → ℤ → ℤ → ℤ → ℤ → ℤ → ℤ → ℤ → ProbedReach → Type 0
-ProbeReachQuadSays w h x0 y0 x1 y1 x2 y2 x3 y3 a = a ≡ reachOf (Quad x0 y0 x1 y1 x2 y2 x3 y3) w h
+abbrev pub ProbeReachSays : ℕ → ℕ → List ℤ → ProbedReach → Type 0
+ProbeReachSays w h shape r = r ≡ reachIn (kindOf shape) w h

@@ -6,17 +6,15 @@ ghost use Rattle.probe_picture.specs.Probes.{
   blendRefusal,
   Blended,
   reachOf,
+  unreached,
   ProbeFilledCanvasSays,
   ProbeMeanRgbSays,
   ProbeSseTotalSays,
-  ProbeBlendCircleSays,
-  ProbeBlendTriangleSays,
-  ProbeBlendQuadSays,
-  ProbeReachCircleSays,
-  ProbeReachTriangleSays,
-  ProbeReachQuadSays,
+  ProbeBlendSays,
+  ProbeReachSays,
 };
 use cover::Kind;
+use crossing::Outlined;
 use picture::Mean;
 use picture::Total;
 
@@ -129,93 +127,25 @@ fn blended(
     number
 }
 
+// A shape is a slice of coordinates: cx, cy, r, or the corners of a triangle or a quad; another length is refusal 2.
 #[no_mangle]
-pub extern "C" fn probe_blend_circle(
+pub extern "C" fn probe_blend(
     w: usize,
     h: usize,
-    cx: i32,
-    cy: i32,
-    r: i32,
+    shape: &[i32],
     opacity: f32,
     red: f32,
     green: f32,
     blue: f32,
     canvas: &mut [f32],
 ) -> u8
-    ensures { λ a. ⌜ ProbeBlendCircleSays w h cx cy r opacity red green blue (now (canvas .entry)) a (now (canvas .exit)) ⌝ }
+    ensures { λ r. ⌜ ProbeBlendSays w h (now (shape .entry)) opacity red green blue (now (canvas .entry)) r (now (canvas .exit)) ⌝ }
 {
-    blended(
-        Kind::Circle(cx, cy, r),
-        opacity,
-        red,
-        green,
-        blue,
-        w,
-        h,
-        canvas,
-    )
-}
-
-#[no_mangle]
-pub extern "C" fn probe_blend_triangle(
-    w: usize,
-    h: usize,
-    x0: i32,
-    y0: i32,
-    x1: i32,
-    y1: i32,
-    x2: i32,
-    y2: i32,
-    opacity: f32,
-    red: f32,
-    green: f32,
-    blue: f32,
-    canvas: &mut [f32],
-) -> u8
-    ensures { λ a. ⌜ ProbeBlendTriangleSays w h x0 y0 x1 y1 x2 y2 opacity red green blue (now (canvas .entry)) a (now (canvas .exit)) ⌝ }
-{
-    blended(
-        Kind::Triangle(x0, y0, x1, y1, x2, y2),
-        opacity,
-        red,
-        green,
-        blue,
-        w,
-        h,
-        canvas,
-    )
-}
-
-#[no_mangle]
-pub extern "C" fn probe_blend_quad(
-    w: usize,
-    h: usize,
-    x0: i32,
-    y0: i32,
-    x1: i32,
-    y1: i32,
-    x2: i32,
-    y2: i32,
-    x3: i32,
-    y3: i32,
-    opacity: f32,
-    red: f32,
-    green: f32,
-    blue: f32,
-    canvas: &mut [f32],
-) -> u8
-    ensures { λ a. ⌜ ProbeBlendQuadSays w h x0 y0 x1 y1 x2 y2 x3 y3 opacity red green blue (now (canvas .entry)) a (now (canvas .exit)) ⌝ }
-{
-    blended(
-        Kind::Quad(x0, y0, x1, y1, x2, y2, x3, y3),
-        opacity,
-        red,
-        green,
-        blue,
-        w,
-        h,
-        canvas,
-    )
+    let o = crossing::outline(shape);
+    match o {
+        Outlined::Known(kind) => blended(kind, opacity, red, green, blue, w, h, canvas),
+        Outlined::Unknown => refusal::LENGTH,
+    }
 }
 
 // ---- the row reach
@@ -232,16 +162,22 @@ fn reach_refusal(kind: Kind, w: usize, h: usize) -> u8
     0
 }
 
+fn unreached(number: u8) -> ProbedReach
+    ensures { λ r. ⌜ r ≡ unreached number ⌝ }
+{
+    ProbedReach {
+        number: number,
+        first: 0,
+        last: 0,
+    }
+}
+
 fn reach(kind: Kind, w: usize, h: usize) -> ProbedReach
     ensures { λ r. ⌜ r ≡ reachOf kind w h ⌝ }
 {
     let number = reach_refusal(kind, w, h);
     if number != 0 {
-        return ProbedReach {
-            number: number,
-            first: 0,
-            last: 0,
-        };
+        return unreached(number);
     }
     let rows = cover::row_reach(kind, h);
     ProbedReach {
@@ -252,42 +188,12 @@ fn reach(kind: Kind, w: usize, h: usize) -> ProbedReach
 }
 
 #[no_mangle]
-pub extern "C" fn probe_reach_circle(w: usize, h: usize, cx: i32, cy: i32, r: i32) -> ProbedReach
-    ensures { λ a. ⌜ ProbeReachCircleSays w h cx cy r a ⌝ }
+pub extern "C" fn probe_reach(w: usize, h: usize, shape: &[i32]) -> ProbedReach
+    ensures { λ r. ⌜ ProbeReachSays w h (now (shape .entry)) r ⌝ }
 {
-    reach(Kind::Circle(cx, cy, r), w, h)
-}
-
-#[no_mangle]
-pub extern "C" fn probe_reach_triangle(
-    w: usize,
-    h: usize,
-    x0: i32,
-    y0: i32,
-    x1: i32,
-    y1: i32,
-    x2: i32,
-    y2: i32,
-) -> ProbedReach
-    ensures { λ a. ⌜ ProbeReachTriangleSays w h x0 y0 x1 y1 x2 y2 a ⌝ }
-{
-    reach(Kind::Triangle(x0, y0, x1, y1, x2, y2), w, h)
-}
-
-#[no_mangle]
-pub extern "C" fn probe_reach_quad(
-    w: usize,
-    h: usize,
-    x0: i32,
-    y0: i32,
-    x1: i32,
-    y1: i32,
-    x2: i32,
-    y2: i32,
-    x3: i32,
-    y3: i32,
-) -> ProbedReach
-    ensures { λ a. ⌜ ProbeReachQuadSays w h x0 y0 x1 y1 x2 y2 x3 y3 a ⌝ }
-{
-    reach(Kind::Quad(x0, y0, x1, y1, x2, y2, x3, y3), w, h)
+    let o = crossing::outline(shape);
+    match o {
+        Outlined::Known(kind) => reach(kind, w, h),
+        Outlined::Unknown => unreached(refusal::LENGTH),
+    }
 }

@@ -196,7 +196,8 @@ fn painted(no: u8, canvas: &[f32]) {
 
 fn circle_on(w: usize, h: usize, cx: i32, cy: i32, r: i32, opacity: f32, canvas: &mut [f32]) {
     figures::slope(canvas, 0.0, 0.015625);
-    let no = probe_picture::probe_blend_circle(w, h, cx, cy, r, opacity, 0.1, 0.7, 0.9, canvas);
+    let shape = [cx, cy, r];
+    let no = probe_picture::probe_blend(w, h, &shape, opacity, 0.1, 0.7, 0.9, canvas);
     painted(no, canvas);
 }
 
@@ -222,21 +223,8 @@ fn triangle(opacity: f32) {
     figures::slope(&mut canvas, 0.0, 0.015625);
     show::text(b"triangle 0 0 4 0 0 3 on 5x4, opacity");
     figures::number(opacity);
-    let no = probe_picture::probe_blend_triangle(
-        5,
-        4,
-        0,
-        0,
-        4,
-        0,
-        0,
-        3,
-        opacity,
-        0.1,
-        0.7,
-        0.9,
-        &mut canvas,
-    );
+    let shape = [0, 0, 4, 0, 0, 3];
+    let no = probe_picture::probe_blend(5, 4, &shape, opacity, 0.1, 0.7, 0.9, &mut canvas);
     painted(no, &canvas);
 }
 
@@ -245,23 +233,8 @@ fn quad(opacity: f32) {
     figures::slope(&mut canvas, 0.0, 0.015625);
     show::text(b"quad 1 1 9 1 9 2 1 2 on 5x4, opacity");
     figures::number(opacity);
-    let no = probe_picture::probe_blend_quad(
-        5,
-        4,
-        1,
-        1,
-        9,
-        1,
-        9,
-        2,
-        1,
-        2,
-        opacity,
-        0.1,
-        0.7,
-        0.9,
-        &mut canvas,
-    );
+    let shape = [1, 1, 9, 1, 9, 2, 1, 2];
+    let no = probe_picture::probe_blend(5, 4, &shape, opacity, 0.1, 0.7, 0.9, &mut canvas);
     painted(no, &canvas);
 }
 

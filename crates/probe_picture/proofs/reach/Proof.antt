@@ -15,8 +15,10 @@ reach-refusal-requires : tie.Need-reach-refusal-requires
 reach-refusal-requires c κs = search needs
 
 returns : tie.Need-returns
-returns c =
-    ap probedReach (answer-refused _ _ _ _ (c .before .reach-refusal .ensures) (c .if1 .taken))
+returns c = c .unreached .ensures ∙ ap probedReach (answer-refused _ _ _ _ (c .before .before .reach-refusal .ensures) (c .before .if1 .taken))
+
+unreached-requires : tie.Need-unreached-requires
+unreached-requires c κs = search needs
 
 row-reach-requires : tie.Need-row-reach-requires
 row-reach-requires c κs =
@@ -31,4 +33,4 @@ returns-2 c =
     simp (toZ-ofZ, p, q) (ap probedReach (answer-done _ _ _ _ (r .ensures) (sym (c .before .before .before .reach-refusal .ensures) ∙ c .before .before .if1 .left)))
 
 pub reach-spec : {M : Type 1} → statement M
-reach-spec = tie.close (tie.spec reach-refusal-requires returns row-reach-requires returns-2)
+reach-spec = tie.close (tie.spec reach-refusal-requires unreached-requires returns row-reach-requires returns-2)
