@@ -145,33 +145,13 @@ fn usual(opacity: f32, levels: usize, w: usize, h: usize) -> bool
     float::within(opacity) & (levels == 64)
 }
 
-fn usual_table(opacity: f32, levels: usize, w: usize, h: usize, table: usize) -> bool
-    ensures { λ r. ⌜ (r ≡ true → Usual opacity levels w h × (badTable w h table ≡ false)) ⌝ }
+fn usual_table(kind: Kind, opacity: f32, levels: usize, w: usize, h: usize, table: usize) -> bool
+    ensures { λ r. ⌜ (r ≡ true → Usual opacity levels w h × (badTable w h table ≡ false) × (badPlaces kind ≡ false)) ⌝ }
 {
     if usual(opacity, levels, w, h) {
-        return !refusal::bad_table(w, h, table);
+        return !(refusal::bad_table(w, h, table) | cover::bad_places(kind));
     }
     false
-}
-
-// The score at one opacity of a shape that reaches some rows, in a call that passed its tests.
-fn span_at(
-    kind: Kind,
-    opacity: f32,
-    top: usize,
-    bottom: usize,
-    w: usize,
-    h: usize,
-    table: &[f64],
-) -> Scored
-    requires sizes { ⌜ Sized w h ⌝ }
-    requires places { ⌜ badPlaces kind ≡ false ⌝ }
-    requires lent { ⌜ length (now table) ≡ h * (w + 1) * 15 ⌝ }
-    requires rows { ⌜ Reached kind w h top bottom ⌝ }
-    ensures { λ r. ⌜ r ≡ answered 0 (finalized (spanSums kind w h (now (table .entry))) opacity) ⌝ }
-{
-    let sums = crate::spans::reached_sums(kind, top, bottom, w, h, table);
-    done(crate::finalize(sums, opacity))
 }
 
 // The score of a shape from a table, at one opacity or over the first of the lent levels. At one opacity the tests come in one
@@ -187,16 +167,15 @@ pub fn span_score(
     ensures { λ r. ⌜ SpanScoreSays kind request (now (levels .entry)) w h (now (table .entry)) r ⌝ }
 {
     let opacity = asked(request);
-    if usual_table(opacity, levels.len(), w, h, table.len()) {
-        if !cover::bad_places(kind) {
-            let rows = cover::reached::reach_rows(kind, w, h);
-            let top = rows.top;
-            let bottom = rows.bottom;
-            if bottom <= top {
-                return Scored::Done(crate::no_score(opacity, 0));
-            }
-            return span_at(kind, opacity, top, bottom, w, h, table);
+    if usual_table(kind, opacity, levels.len(), w, h, table.len()) {
+        let rows = cover::reached::reach_rows(kind, w, h);
+        let top = rows.top;
+        let bottom = rows.bottom;
+        if bottom <= top {
+            return Scored::Done(crate::no_score(opacity, 0));
         }
+        let sums = crate::spans::reached_sums(kind, top, bottom, w, h, table);
+        return done(crate::finalize(sums, opacity));
     }
     tested_span_score(kind, request, levels, w, h, table)
 }
@@ -255,6 +234,7 @@ fn point_refusal(
 }
 
 fn usual_pictures(
+    kind: Kind,
     opacity: f32,
     levels: usize,
     w: usize,
@@ -262,58 +242,12 @@ fn usual_pictures(
     target: usize,
     canvas: usize,
 ) -> bool
-    ensures { λ r. ⌜ (r ≡ true → Usual opacity levels w h × (badPicture w h target || badPicture w h canvas ≡ false)) ⌝ }
+    ensures { λ r. ⌜ (r ≡ true → Usual opacity levels w h × (badPicture w h target || badPicture w h canvas ≡ false) × (badPlaces kind ≡ false)) ⌝ }
 {
     if usual(opacity, levels, w, h) {
-        return !bad_pictures(w, h, target, canvas);
+        return !(bad_pictures(w, h, target, canvas) | cover::bad_places(kind));
     }
     false
-}
-
-fn point_at(
-    kind: Kind,
-    opacity: f32,
-    top: usize,
-    bottom: usize,
-    w: usize,
-    h: usize,
-    target: &[f32],
-    canvas: &[f32],
-) -> Scored
-    requires sizes { ⌜ Sized w h ⌝ }
-    requires places { ⌜ badPlaces kind ≡ false ⌝ }
-    requires lent { ⌜ (length (now target) ≡ h * w * 3) × (length (now canvas) ≡ h * w * 3) ⌝ }
-    requires rows { ⌜ Reached kind w h top bottom ⌝ }
-    ensures { λ r. ⌜ r ≡ answered 0 (finalized (pointSums kind w h (now (target .entry)) (now (canvas .entry))) opacity) ⌝ }
-{
-    let sums = crate::points::reached_sums(kind, top, bottom, w, h, target, canvas);
-    done(crate::finalize(sums, opacity))
-}
-
-fn point_score(
-    kind: Kind,
-    request: Request,
-    levels: &[f32],
-    w: usize,
-    h: usize,
-    target: &[f32],
-    canvas: &[f32],
-) -> Scored
-    ensures { λ r. ⌜ PointScoreSays kind request (now (levels .entry)) w h (now (target .entry)) (now (canvas .entry)) r ⌝ }
-{
-    let opacity = asked(request);
-    if usual_pictures(opacity, levels.len(), w, h, target.len(), canvas.len()) {
-        if !cover::bad_places(kind) {
-            let rows = cover::reached::reach_rows(kind, w, h);
-            let top = rows.top;
-            let bottom = rows.bottom;
-            if bottom <= top {
-                return Scored::Done(crate::no_score(opacity, 0));
-            }
-            return point_at(kind, opacity, top, bottom, w, h, target, canvas);
-        }
-    }
-    tested_point_score(kind, request, levels, w, h, target, canvas)
 }
 
 fn tested_point_score(
@@ -349,15 +283,27 @@ pub fn circle_point_score(
 ) -> Scored
     ensures { λ s. ⌜ CirclePointScoreSays cx cy r request (now (levels .entry)) w h (now (target .entry)) (now (canvas .entry)) s ⌝ }
 {
-    point_score(
-        Kind::Circle(cx, cy, r),
-        request,
-        levels,
+    let kind = Kind::Circle(cx, cy, r);
+    let opacity = asked(request);
+    if usual_pictures(
+        kind,
+        opacity,
+        levels.len(),
         w,
         h,
-        target,
-        canvas,
-    )
+        target.len(),
+        canvas.len(),
+    ) {
+        let rows = cover::reached::reach_rows(kind, w, h);
+        let top = rows.top;
+        let bottom = rows.bottom;
+        if bottom <= top {
+            return Scored::Done(crate::no_score(opacity, 0));
+        }
+        let sums = crate::points::reached_sums(kind, top, bottom, w, h, target, canvas);
+        return done(crate::finalize(sums, opacity));
+    }
+    tested_point_score(kind, request, levels, w, h, target, canvas)
 }
 
 // The same of a triangle.
@@ -377,15 +323,27 @@ pub fn triangle_point_score(
 ) -> Scored
     ensures { λ s. ⌜ TrianglePointScoreSays x0 y0 x1 y1 x2 y2 request (now (levels .entry)) w h (now (target .entry)) (now (canvas .entry)) s ⌝ }
 {
-    point_score(
-        Kind::Triangle(x0, y0, x1, y1, x2, y2),
-        request,
-        levels,
+    let kind = Kind::Triangle(x0, y0, x1, y1, x2, y2);
+    let opacity = asked(request);
+    if usual_pictures(
+        kind,
+        opacity,
+        levels.len(),
         w,
         h,
-        target,
-        canvas,
-    )
+        target.len(),
+        canvas.len(),
+    ) {
+        let rows = cover::reached::reach_rows(kind, w, h);
+        let top = rows.top;
+        let bottom = rows.bottom;
+        if bottom <= top {
+            return Scored::Done(crate::no_score(opacity, 0));
+        }
+        let sums = crate::points::reached_sums(kind, top, bottom, w, h, target, canvas);
+        return done(crate::finalize(sums, opacity));
+    }
+    tested_point_score(kind, request, levels, w, h, target, canvas)
 }
 
 fn sweep_refusal(levels: &[f32], n: usize) -> u8

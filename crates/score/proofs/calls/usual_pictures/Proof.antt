@@ -1,8 +1,10 @@
--- `score::calls::usual_pictures` meets its contract: the usual numbers, and the pictures have the length that belongs to them.
+-- `score::calls::usual_pictures` meets its contract: the usual numbers, the pictures have the length that belongs to them, and no place is bad.
 use mathlib.Core.Path.{refl, sym, _∙_}
 use Rattle.laws.specs.Fit.{no-both}
+use Rattle.laws.specs.Bools.{or-left, or-right}
 use Rattle.refusal.specs.RefusalLaws.{sized}
 use Rattle.score.specs.CallLaws.{not-holds}
+use mathlib.Core.Bool.{_||_}
 use borrow.Author.Needs.{needs}
 use Rattle.score.proofs.calls.usual_pictures.Statement.{statement}
 use Rattle.score.proofs.calls.usual_pictures.Tie as tie
@@ -16,11 +18,21 @@ bad-pictures-requires c κs =
     let z = sized (a .w) (a .h) (c .before .usual .ensures (c .if1 .taken) .size) in
     (z .w-high, z .h-high)
 
+bad-places-requires : tie.Need-bad-places-requires
+bad-places-requires c κs = search needs
+
 returns : tie.Need-returns
-returns c = λ e. (c .before .before .usual .ensures (c .before .if1 .taken), sym (c .bad-pictures .ensures) ∙ not-holds (c .bad-pictures .result) e)
+returns c =
+    let t = c .before in
+    λ e.
+    let f = not-holds (t .bad-pictures .result || c .bad-places .result) e in (
+      t .before .before .usual .ensures (t .before .if1 .taken),
+      sym (t .bad-pictures .ensures) ∙ or-left (t .bad-pictures .result) (c .bad-places .result) f,
+      sym (c .bad-places .ensures) ∙ or-right (t .bad-pictures .result) (c .bad-places .result) f,
+    )
 
 returns-2 : tie.Need-returns-2
 returns-2 c = λ e. no-both e refl
 
 pub usual-pictures-spec : {M : Type 1} → statement M
-usual-pictures-spec = tie.close (tie.spec usual-requires bad-pictures-requires returns returns-2)
+usual-pictures-spec = tie.close (tie.spec usual-requires bad-pictures-requires bad-places-requires returns returns-2)
