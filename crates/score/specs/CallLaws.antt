@@ -110,7 +110,7 @@ none-refused a b c d e ha hb hc hd he =
     ∙ lowest-skip (opacityIf e) [] he
     ∙ lowest-empty
 
-module _ (kind : Kind) (opacity : Float) (levels : List Float) (w h : ℕ) (u : Usual opacity (length levels) w h) (places : badPlaces kind ≡ false) where
+module _ (kind : Kind) (opacity : Float) (levels : List Float) (w h : ℕ) (u : Usual kind opacity (length levels) w h) where
   fine : badOpacity (Opacity opacity) levels ≡ false
   fine = ap not (u .opacity-in)
 
@@ -121,13 +121,13 @@ module _ (kind : Kind) (opacity : Float) (levels : List Float) (w h : ℕ) (u : 
   unfolding spanRefusal
   usual-span table e =
       none-refused (badSize w h) (badLevels levels || badTable w h (length table)) false (badPlaces kind) (badOpacity (Opacity opacity) levels)
-      (u .size) (or-neither (badLevels levels) (badTable w h (length table)) enough e) refl places fine
+      (u .size) (or-neither (badLevels levels) (badTable w h (length table)) enough e) refl (u .places) fine
 
   pub usual-point : (target canvas : List Float) → badPicture w h (length target) || badPicture w h (length canvas) ≡ false → pointRefusal kind (Opacity opacity) levels w h target canvas ≡ 0
   unfolding pointRefusal
   usual-point target canvas e =
       none-refused (badSize w h) (badLevels levels || (badPicture w h (length target) || badPicture w h (length canvas))) false (badPlaces kind) (badOpacity (Opacity opacity) levels)
-      (u .size) (or-neither (badLevels levels) (badPicture w h (length target) || badPicture w h (length canvas)) enough e) refl places fine
+      (u .size) (or-neither (badLevels levels) (badPicture w h (length target) || badPicture w h (length canvas)) enough e) refl (u .places) fine
 
 -- ---- a call at one opacity that passed its tests in one go: what its sums ask, and its answer
 module _ (request : Request) (opacity : Float) (levels : List Float) (number : Request → ℕ) (sums : ShapeSums) (asks : request ≡ Opacity opacity)
@@ -142,9 +142,9 @@ module _ (request : Request) (opacity : Float) (levels : List Float) (number : R
   nothing-told s z e = told noSums s (Done s) z (e ∙ finalized-none noSums opacity no-count) refl
 
 module _ (kind : Kind) (request : Request) (opacity : Float) (levels : List Float) (w h : ℕ) (asks : within opacity ≡ true → request ≡ Opacity opacity) where
-  module _ (table : List Float) (f : Usual opacity (length levels) w h × (badTable w h (length table) ≡ false) × (badPlaces kind ≡ false)) where
+  module _ (table : List Float) (f : Usual kind opacity (length levels) w h × (badTable w h (length table) ≡ false)) where
     pub span-rows : Sized w h × (badPlaces kind ≡ false)
-    span-rows = (sized w h (f .0 .size), f .2)
+    span-rows = (sized w h (f .0 .size), f .0 .places)
 
     pub span-lent : length table ≡ h * (w + 1) * 15
     span-lent = table-length w h (length table) (f .1)
@@ -153,19 +153,19 @@ module _ (kind : Kind) (request : Request) (opacity : Float) (levels : List Floa
         → SpanScoreSays kind request levels w h table a
     span-told =
         told request opacity levels (λ u. spanRefusal kind u levels w h table) (spanSums kind w h table) (asks (f .0 .opacity-in))
-        (usual-span kind opacity levels w h (f .0) (f .2) table (f .1))
+        (usual-span kind opacity levels w h (f .0) table (f .1))
 
     pub span-nothing : (r : Rows) → ReachRowsSays kind w h r → r .bottom ≤ r .top → (s : Score) → s ≡ noScore opacity 0
         → SpanScoreSays kind request levels w h table (Done s)
     span-nothing r e l s =
         nothing-told request opacity levels (λ u. spanRefusal kind u levels w h table) (spanSums kind w h table) (asks (f .0 .opacity-in))
-        (usual-span kind opacity levels w h (f .0) (f .2) table (f .1)) s
+        (usual-span kind opacity levels w h (f .0) table (f .1)) s
         (none-spans kind w h (sized w h (f .0 .size) .h-high) (none-reached kind w h r e l) table)
 
   module _ (target canvas : List Float)
-      (f : Usual opacity (length levels) w h × (badPicture w h (length target) || badPicture w h (length canvas) ≡ false) × (badPlaces kind ≡ false)) where
+      (f : Usual kind opacity (length levels) w h × (badPicture w h (length target) || badPicture w h (length canvas) ≡ false)) where
     pub point-rows : Sized w h × (badPlaces kind ≡ false)
-    point-rows = (sized w h (f .0 .size), f .2)
+    point-rows = (sized w h (f .0 .size), f .0 .places)
 
     pub point-lent : (length target ≡ h * w * 3) × (length canvas ≡ h * w * 3)
     point-lent = picture-lengths w h (length target) (length canvas) (f .1)
@@ -174,13 +174,13 @@ module _ (kind : Kind) (request : Request) (opacity : Float) (levels : List Floa
         → PointScoreSays kind request levels w h target canvas a
     point-told =
         told request opacity levels (λ u. pointRefusal kind u levels w h target canvas) (pointSums kind w h target canvas) (asks (f .0 .opacity-in))
-        (usual-point kind opacity levels w h (f .0) (f .2) target canvas (f .1))
+        (usual-point kind opacity levels w h (f .0) target canvas (f .1))
 
     pub point-nothing : (r : Rows) → ReachRowsSays kind w h r → r .bottom ≤ r .top → (s : Score) → s ≡ noScore opacity 0
         → PointScoreSays kind request levels w h target canvas (Done s)
     point-nothing r e l s =
         nothing-told request opacity levels (λ u. pointRefusal kind u levels w h target canvas) (pointSums kind w h target canvas) (asks (f .0 .opacity-in))
-        (usual-point kind opacity levels w h (f .0) (f .2) target canvas (f .1)) s
+        (usual-point kind opacity levels w h (f .0) target canvas (f .1)) s
         (none-points kind w h (sized w h (f .0 .size) .h-high) (none-reached kind w h r e l) target canvas)
 
 -- ---- the answers
