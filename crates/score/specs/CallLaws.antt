@@ -129,7 +129,7 @@ module _ (kind : Kind) (opacity : Float) (levels : List Float) (w h : ℕ) (u : 
       none-refused (badSize w h) (badLevels levels || (badPicture w h (length target) || badPicture w h (length canvas))) false (badPlaces kind) (badOpacity (Opacity opacity) levels)
       (u .size) (or-neither (badLevels levels) (badPicture w h (length target) || badPicture w h (length canvas)) enough e) refl (u .places) fine
 
--- ---- a call at one opacity that passed its tests in one go: what its sums ask, and its answer
+-- ---- a call at one opacity that passed its tests in one go: what its rows ask, and its answer
 module _ (request : Request) (opacity : Float) (levels : List Float) (number : Request → ℕ) (sums : ShapeSums) (asks : request ≡ Opacity opacity)
     (passes : number (Opacity opacity) ≡ 0) where
   told : (q : ShapeSums) (s : Score) (a : Scored) → q ≡ sums → s ≡ finalized q opacity → a ≡ answered 0 s → a ≡ answered (number request) (scoreAt sums request levels)
@@ -141,14 +141,11 @@ module _ (request : Request) (opacity : Float) (levels : List Float) (number : R
   nothing-told : (s : Score) → noSums ≡ sums → s ≡ noScore opacity 0 → Done s ≡ answered (number request) (scoreAt sums request levels)
   nothing-told s z e = told noSums s (Done s) z (e ∙ finalized-none noSums opacity no-count) refl
 
+pub usual-rows : (kind : Kind) (opacity : Float) (n w h : ℕ) → Usual kind opacity n w h → Sized w h × (badPlaces kind ≡ false)
+usual-rows kind opacity n w h u = (sized w h (u .size), u .places)
+
 module _ (kind : Kind) (request : Request) (opacity : Float) (levels : List Float) (w h : ℕ) (asks : within opacity ≡ true → request ≡ Opacity opacity) where
   module _ (table : List Float) (f : Usual kind opacity (length levels) w h × (badTable w h (length table) ≡ false)) where
-    pub span-rows : Sized w h × (badPlaces kind ≡ false)
-    span-rows = (sized w h (f .0 .size), f .0 .places)
-
-    pub span-lent : length table ≡ h * (w + 1) * 15
-    span-lent = table-length w h (length table) (f .1)
-
     pub span-told : (q : ShapeSums) (s : Score) (a : Scored) → q ≡ spanSums kind w h table → s ≡ finalized q opacity → a ≡ answered 0 s
         → SpanScoreSays kind request levels w h table a
     span-told =
@@ -164,12 +161,6 @@ module _ (kind : Kind) (request : Request) (opacity : Float) (levels : List Floa
 
   module _ (target canvas : List Float)
       (f : Usual kind opacity (length levels) w h × (badPicture w h (length target) || badPicture w h (length canvas) ≡ false)) where
-    pub point-rows : Sized w h × (badPlaces kind ≡ false)
-    point-rows = (sized w h (f .0 .size), f .0 .places)
-
-    pub point-lent : (length target ≡ h * w * 3) × (length canvas ≡ h * w * 3)
-    point-lent = picture-lengths w h (length target) (length canvas) (f .1)
-
     pub point-told : (q : ShapeSums) (s : Score) (a : Scored) → q ≡ pointSums kind w h target canvas → s ≡ finalized q opacity → a ≡ answered 0 s
         → PointScoreSays kind request levels w h target canvas a
     point-told =

@@ -1,8 +1,9 @@
 -- `score::calls::circle_point_score` meets its contract: as for spans, of this kind, once each number that is read back from its bits is the number itself.
 use mir.Facts.{toZ-ofZ}
 use native.Mathlib.Omega.{arith}
+use lib.ListN.{length}
 use Rattle.score.specs.ScoringLaws.{some-reached}
-use Rattle.score.specs.CallLaws.{point-rows, point-lent, point-nothing, point-told}
+use Rattle.score.specs.CallLaws.{picture-lengths, usual-rows, point-nothing, point-told}
 use borrow.Author.Needs.{needs}
 use Rattle.score.proofs.calls.circle_point_score.Statement.{statement}
 use Rattle.score.proofs.calls.circle_point_score.Tie as tie
@@ -15,9 +16,8 @@ usual-pictures-requires c κs = search needs
 
 reach-rows-requires : tie.Need-reach-rows-requires
 reach-rows-requires c κs =
-    let n = c .before .before in
-    let a = n .before .before .before .before .args in
-    point-rows _ (a .request) (n .asked .result) (a .levels .now) (a .w) (a .h) (n .asked .ensures) (a .target .now) (a .canvas .now) (c .before .usual-pictures .ensures (c .if1 .taken))
+    let a = c .before .before .before .before .before .before .args in
+    usual-rows _ _ _ (a .w) (a .h) (c .before .usual-pictures .ensures (c .if1 .taken) .0)
 
 no-score-requires : tie.Need-no-score-requires
 no-score-requires c κs = search needs
@@ -37,19 +37,10 @@ reached-sums-requires : tie.Need-reached-sums-requires
 reached-sums-requires c κs =
     let r = c .before in
     let t = r .before in
-    let n = t .before .before in
-    let a = n .before .before .before .before .args in
+    let a = t .before .before .before .before .before .before .args in
     let f = t .before .usual-pictures .ensures (t .if1 .taken) in
-    let z = point-rows _ (a .request) (n .asked .result) (a .levels .now) (a .w) (a .h) (n .asked .ensures) (a .target .now) (a .canvas .now) f in (
-      z .0,
-      (
-        z .1,
-        (
-          point-lent _ (a .request) (n .asked .result) (a .levels .now) (a .w) (a .h) (n .asked .ensures) (a .target .now) (a .canvas .now) f,
-          some-reached _ (a .w) (a .h) (r .reach-rows .result) (r .reach-rows .ensures) (omega (arith, c .if2 .left)),
-        ),
-      ),
-    )
+    let z = usual-rows _ _ _ (a .w) (a .h) (f .0) in
+    (z .0, (z .1, (picture-lengths (a .w) (a .h) (length (a .target .now)) (length (a .canvas .now)) (f .1), some-reached _ (a .w) (a .h) (r .reach-rows .result) (r .reach-rows .ensures) (omega (arith, c .if2 .left)))))
 
 finalize-requires : tie.Need-finalize-requires
 finalize-requires c κs = search needs

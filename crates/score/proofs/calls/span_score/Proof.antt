@@ -1,7 +1,8 @@
 -- `score::calls::span_score` meets its contract: a call that passes all tests at once is not refused, and one that does not is tested in order.
 use native.Mathlib.Omega.{arith}
+use lib.ListN.{length}
 use Rattle.score.specs.ScoringLaws.{some-reached}
-use Rattle.score.specs.CallLaws.{span-rows, span-lent, span-nothing, span-told}
+use Rattle.score.specs.CallLaws.{table-length, usual-rows, span-nothing, span-told}
 use borrow.Author.Needs.{needs}
 use Rattle.score.proofs.calls.span_score.Statement.{statement}
 use Rattle.score.proofs.calls.span_score.Tie as tie
@@ -14,9 +15,8 @@ usual-table-requires c κs = search needs
 
 reach-rows-requires : tie.Need-reach-rows-requires
 reach-rows-requires c κs =
-    let n = c .before .before in
-    let a = n .before .before .before .args in
-    span-rows _ (a .request) (n .asked .result) (a .levels .now) (a .w) (a .h) (n .asked .ensures) (a .table .now) (c .before .usual-table .ensures (c .if1 .taken))
+    let a = c .before .before .before .before .before .args in
+    usual-rows _ _ _ (a .w) (a .h) (c .before .usual-table .ensures (c .if1 .taken) .0)
 
 no-score-requires : tie.Need-no-score-requires
 no-score-requires c κs = search needs
@@ -34,19 +34,10 @@ reached-sums-requires : tie.Need-reached-sums-requires
 reached-sums-requires c κs =
     let r = c .before in
     let t = r .before in
-    let n = t .before .before in
-    let a = n .before .before .before .args in
+    let a = t .before .before .before .before .before .args in
     let f = t .before .usual-table .ensures (t .if1 .taken) in
-    let z = span-rows _ (a .request) (n .asked .result) (a .levels .now) (a .w) (a .h) (n .asked .ensures) (a .table .now) f in (
-      z .0,
-      (
-        z .1,
-        (
-          span-lent _ (a .request) (n .asked .result) (a .levels .now) (a .w) (a .h) (n .asked .ensures) (a .table .now) f,
-          some-reached _ (a .w) (a .h) (r .reach-rows .result) (r .reach-rows .ensures) (omega (arith, c .if2 .left)),
-        ),
-      ),
-    )
+    let z = usual-rows _ _ _ (a .w) (a .h) (f .0) in
+    (z .0, (z .1, (table-length (a .w) (a .h) (length (a .table .now)) (f .1), some-reached _ (a .w) (a .h) (r .reach-rows .result) (r .reach-rows .ensures) (omega (arith, c .if2 .left)))))
 
 finalize-requires : tie.Need-finalize-requires
 finalize-requires c κs = search needs

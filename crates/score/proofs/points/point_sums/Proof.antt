@@ -1,6 +1,6 @@
 -- `score::points::point_sums` meets its contract: over the rows of the reach, or none.
 use mathlib.Core.Path.{refl, _∙_}
-use Prim.Native.Nat.{_+_, _*_}
+use Prim.Native.Nat.{_*_}
 use native.Mathlib.Omega.{arith}
 use borrow.Author.Needs.{needs}
 use Rattle.laws.specs.Blank.{blank}

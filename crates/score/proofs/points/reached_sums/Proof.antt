@@ -1,6 +1,6 @@
 -- `score::points::reached_sums` meets its contract: the rows of the reach are all that have a covered pixel.
 use mathlib.Core.Path.{refl, _∙_}
-use Prim.Native.Nat.{_+_, _*_}
+use Prim.Native.Nat.{_*_}
 use native.Mathlib.Omega.{arith}
 use Rattle.laws.specs.Blank.{blank}
 use Rattle.score.specs.ScoringLaws.{reached-high, reached-rows, reached-fit, reached-points}
