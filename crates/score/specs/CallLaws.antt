@@ -1,5 +1,5 @@
 -- Laws: the refusals of the calls, test by test, and what a call that is not refused knows.
-use mathlib.Core.Path.{_≡_, refl, sym, _∙_, ap}
+use mathlib.Core.Path.{_≡_, refl, sym, _∙_, ap, ap₂}
 use mathlib.Core.Bool.{Bool, true, false, not, _||_, cond}
 use mathlib.Core.List.{List, [], _∷_}
 use Prim.Native.Nat.{ℕ, _+_, _*_, _≤_}
@@ -24,10 +24,14 @@ use Rattle.score.specs.declared.Collected.{Collected}
 use Rattle.sums.specs.declared.ShapeSums.{ShapeSums}
 use Rattle.sums.specs.Sums.{noSums}
 use Rattle.refusal.specs.ThreeTests as three
-use Rattle.score.specs.ScoringLaws.{count-range}
-use Rattle.score.specs.Finalize.{finalized}
+use Rattle.score.specs.ScoringLaws.{count-range, no-count, none-spans, none-points, none-reached}
+use Rattle.cover.specs.declared.reached.Rows.{Rows}
+use Rattle.cover.specs.ReachRows.{ReachRowsSays}
+use Rattle.float.specs.Within.{within}
+use Rattle.score.specs.Finalize.{finalized, noScore}
+use Rattle.score.specs.FinalizeLaws.{finalized-none}
 use Rattle.score.specs.Usual.{Usual}
-use Rattle.score.specs.Scoring.{scoreAt, badCount, badOpacity, badLevels, spanRefusal, pointRefusal, sweepRefusal, spanSumsRefusal, pointSumsRefusal, answered, noneCollected, collected}
+use Rattle.score.specs.Scoring.{SpanScoreSays, PointScoreSays, spanSums, pointSums, scoreAt, badCount, badOpacity, badLevels, spanRefusal, pointRefusal, sweepRefusal, spanSumsRefusal, pointSumsRefusal, answered, noneCollected, collected}
 
 pub or-first : (a b : Bool) → a ≡ true → a || b ≡ true
 or-first a b h = ap (λ (t : Bool). t || b) h
@@ -78,6 +82,11 @@ pub picture-length : (w h n : ℕ) → badPicture w h n ≡ false → n ≡ h * 
 unfolding badPicture
 picture-length w h n e = eqb-true n (h * w * 3) (not-false (eqb n (h * w * 3)) e)
 
+-- both pictures have their lengths
+pub picture-lengths : (w h m n : ℕ) → badPicture w h m || badPicture w h n ≡ false → (m ≡ h * w * 3) × (n ≡ h * w * 3)
+picture-lengths w h m n e =
+    (picture-length w h m (or-left (badPicture w h m) (badPicture w h n) e), picture-length w h n (or-right (badPicture w h m) (badPicture w h n) e))
+
 pub span-passed : (kind : Kind) (request : Request) (levels : List Float) (w h : ℕ) (table : List Float) → spanRefusal kind request levels w h table ≡ 0
     → Passed (badSize w h) (badLevels levels || badTable w h (length table)) (badCount request) (badPlaces kind) (badOpacity request levels)
 unfolding spanRefusal
@@ -101,7 +110,7 @@ none-refused a b c d e ha hb hc hd he =
     ∙ lowest-skip (opacityIf e) [] he
     ∙ lowest-empty
 
-module _ (kind : Kind) (opacity : Float) (levels : List Float) (w h : ℕ) (u : Usual opacity (length levels) w h) (places : badPlaces kind ≡ false) where
+module _ (kind : Kind) (opacity : Float) (levels : List Float) (w h : ℕ) (u : Usual kind opacity (length levels) w h) where
   fine : badOpacity (Opacity opacity) levels ≡ false
   fine = ap not (u .opacity-in)
 
@@ -112,21 +121,58 @@ module _ (kind : Kind) (opacity : Float) (levels : List Float) (w h : ℕ) (u : 
   unfolding spanRefusal
   usual-span table e =
       none-refused (badSize w h) (badLevels levels || badTable w h (length table)) false (badPlaces kind) (badOpacity (Opacity opacity) levels)
-      (u .size) (or-neither (badLevels levels) (badTable w h (length table)) enough e) refl places fine
+      (u .size) (or-neither (badLevels levels) (badTable w h (length table)) enough e) refl (u .places) fine
 
   pub usual-point : (target canvas : List Float) → badPicture w h (length target) || badPicture w h (length canvas) ≡ false → pointRefusal kind (Opacity opacity) levels w h target canvas ≡ 0
   unfolding pointRefusal
   usual-point target canvas e =
       none-refused (badSize w h) (badLevels levels || (badPicture w h (length target) || badPicture w h (length canvas))) false (badPlaces kind) (badOpacity (Opacity opacity) levels)
-      (u .size) (or-neither (badLevels levels) (badPicture w h (length target) || badPicture w h (length canvas)) enough e) refl places fine
+      (u .size) (or-neither (badLevels levels) (badPicture w h (length target) || badPicture w h (length canvas)) enough e) refl (u .places) fine
 
--- an answer that is not refused, and the score at one opacity
-pub answered-at : (n : ℕ) (r : Scored) (s t : Score) → n ≡ 0 → r ≡ answered 0 s → s ≡ t → r ≡ answered n t
-answered-at n r s t z e g = e ∙ ap Done g ∙ sym (ap (λ (b : Bool). cond b (Done t) (Refused n)) (eq-eqb n 0 z))
+-- ---- a call at one opacity that passed its tests in one go: what its rows ask, and its answer
+module _ (request : Request) (opacity : Float) (levels : List Float) (number : Request → ℕ) (sums : ShapeSums) (asks : request ≡ Opacity opacity)
+    (passes : number (Opacity opacity) ≡ 0) where
+  told : (q : ShapeSums) (s : Score) (a : Scored) → q ≡ sums → s ≡ finalized q opacity → a ≡ answered 0 s → a ≡ answered (number request) (scoreAt sums request levels)
+  unfolding scoreAt
+  told q s a z g e =
+      e ∙ ap Done (g ∙ ap (λ (u : ShapeSums). finalized u opacity) z)
+      ∙ sym (ap₂ (λ (n : ℕ) (u : Request). cond (eqb n 0) (Done (scoreAt sums u levels)) (Refused n)) (ap number asks ∙ passes) asks)
 
-pub score-opacity : (s : ShapeSums) (opacity : Float) (levels : List Float) → finalized s opacity ≡ scoreAt s (Opacity opacity) levels
-unfolding scoreAt
-score-opacity s opacity levels = refl
+  nothing-told : (s : Score) → noSums ≡ sums → s ≡ noScore opacity 0 → Done s ≡ answered (number request) (scoreAt sums request levels)
+  nothing-told s z e = told noSums s (Done s) z (e ∙ finalized-none noSums opacity no-count) refl
+
+pub usual-rows : (kind : Kind) (opacity : Float) (n w h : ℕ) → Usual kind opacity n w h → Sized w h × (badPlaces kind ≡ false)
+usual-rows kind opacity n w h u = (sized w h (u .size), u .places)
+
+module _ (kind : Kind) (request : Request) (opacity : Float) (levels : List Float) (w h : ℕ) (asks : within opacity ≡ true → request ≡ Opacity opacity) where
+  module _ (table : List Float) (f : Usual kind opacity (length levels) w h × (badTable w h (length table) ≡ false)) where
+    pub span-told : (q : ShapeSums) (s : Score) (a : Scored) → q ≡ spanSums kind w h table → s ≡ finalized q opacity → a ≡ answered 0 s
+        → SpanScoreSays kind request levels w h table a
+    span-told =
+        told request opacity levels (λ u. spanRefusal kind u levels w h table) (spanSums kind w h table) (asks (f .0 .opacity-in))
+        (usual-span kind opacity levels w h (f .0) table (f .1))
+
+    pub span-nothing : (r : Rows) → ReachRowsSays kind w h r → r .bottom ≤ r .top → (s : Score) → s ≡ noScore opacity 0
+        → SpanScoreSays kind request levels w h table (Done s)
+    span-nothing r e l s =
+        nothing-told request opacity levels (λ u. spanRefusal kind u levels w h table) (spanSums kind w h table) (asks (f .0 .opacity-in))
+        (usual-span kind opacity levels w h (f .0) table (f .1)) s
+        (none-spans kind w h (sized w h (f .0 .size) .h-high) (none-reached kind w h r e l) table)
+
+  module _ (target canvas : List Float)
+      (f : Usual kind opacity (length levels) w h × (badPicture w h (length target) || badPicture w h (length canvas) ≡ false)) where
+    pub point-told : (q : ShapeSums) (s : Score) (a : Scored) → q ≡ pointSums kind w h target canvas → s ≡ finalized q opacity → a ≡ answered 0 s
+        → PointScoreSays kind request levels w h target canvas a
+    point-told =
+        told request opacity levels (λ u. pointRefusal kind u levels w h target canvas) (pointSums kind w h target canvas) (asks (f .0 .opacity-in))
+        (usual-point kind opacity levels w h (f .0) target canvas (f .1))
+
+    pub point-nothing : (r : Rows) → ReachRowsSays kind w h r → r .bottom ≤ r .top → (s : Score) → s ≡ noScore opacity 0
+        → PointScoreSays kind request levels w h target canvas (Done s)
+    point-nothing r e l s =
+        nothing-told request opacity levels (λ u. pointRefusal kind u levels w h target canvas) (pointSums kind w h target canvas) (asks (f .0 .opacity-in))
+        (usual-point kind opacity levels w h (f .0) target canvas (f .1)) s
+        (none-points kind w h (sized w h (f .0 .size) .h-high) (none-reached kind w h r e l) target canvas)
 
 -- ---- the answers
 pub answered-refused : (n k : ℕ) (s : Score) → k ≡ n → (k ≡ 0 → ⊥) → Refused k ≡ answered n s
@@ -177,11 +223,6 @@ pub point-sums-passed : (kind : Kind) (w h : ℕ) (target canvas : List Float) �
 unfolding pointSumsRefusal
 point-sums-passed kind w h target canvas e =
     three.passed (badSize w h) (badPicture w h (length target) || badPicture w h (length canvas)) (badPlaces kind) 4 (omega arith) e
-
--- both pictures have their lengths
-pub picture-lengths : (w h m n : ℕ) → badPicture w h m || badPicture w h n ≡ false → (m ≡ h * w * 3) × (n ≡ h * w * 3)
-picture-lengths w h m n e =
-    (picture-length w h m (or-left (badPicture w h m) (badPicture w h n) e), picture-length w h n (or-right (badPicture w h m) (badPicture w h n) e))
 
 pub none-collected : (k : ℕ) (s : ShapeSums) → s ≡ noSums → record { refused = k; sums = s } ≡ noneCollected k
 none-collected k s e = ap (λ (q : ShapeSums). record { refused = k; sums = q }) e

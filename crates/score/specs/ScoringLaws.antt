@@ -4,7 +4,9 @@ use mathlib.Core.Bool.{Bool, true, false, cond}
 use mathlib.Core.Logic.{_⊎_, inl, inr}
 use mathlib.Core.List.{List}
 use Prim.Native.Nat.{ℕ, zero, suc, _+_, _-_, _*_, _≤_, _<_}
+use native.Mathlib.Nat.{mul-le-mul-right}
 use native.Mathlib.Omega.{arith}
+use Rattle.refusal.specs.Refusals.{Sized}
 use native.Mathlib.Decide.{decLe}
 use borrow.Author.Tests.{lt-ltb, le-ltb, ltb-false}
 use Rattle.laws.specs.Bools.{or-left, or-right}
@@ -23,9 +25,10 @@ use Rattle.laws.specs.RowFoldLaws.{rows-none, rows-more, rows-same, rows-window
 use lib.IntN.{ℤ}
 use Rattle.cover.specs.declared.Kind.{Kind}
 use Rattle.cover.specs.declared.Kind.the-variants.{Circle, Triangle}
-use Rattle.cover.specs.Cover.{covered}
+use Rattle.cover.specs.Cover.{covered, RunsSays}
 use Rattle.cover.specs.CoverLaws.{leftAt, rightAt, left-ends, right-ends, row-run, run-bounds}
-use Rattle.cover.specs.ReachRows.{reachRows}
+use Rattle.cover.specs.ReachRows.{reachRows, ReachRowsSays}
+use Rattle.cover.specs.declared.reached.Rows.{Rows}
 use Rattle.cover.specs.ReachRowsLaws.{through}
 use Rattle.laws.specs.Runs.{runsOf}
 use Rattle.sums.specs.declared.ShapeSums.{ShapeSums}
@@ -34,7 +37,7 @@ use Rattle.table.specs.Layout.{placeOf}
 use Rattle.score.specs.declared.Scored.{Scored}
 use Rattle.score.specs.declared.Collected.{Collected}
 use Rattle.score.specs.declared.Request.{Request}
-use Rattle.score.specs.RunSums.{runAdded, runLeft, runRight, runsAdded, pixelsAdded, pointsAdded, RunsFit, NumbersIn}
+use Rattle.score.specs.RunSums.{runAdded, runLeft, runRight, runsAdded, pixelsAdded, pointsAdded, RunsFit, NumbersIn, Reached}
 use Rattle.score.specs.Scoring.{spanSums, pointSums, pixelAt, badCount, AlphaSweepSays, CollectSpanSumsSays, CollectPointSumsSays, SpanScoreSays, PointScoreSays, CirclePointScoreSays, TrianglePointScoreSays, CollectCircleSumsSays, CollectTriangleSumsSays}
 
 pub AlphaSweepSays-unique : (s : ShapeSums) (levels : List Float) (n : ℕ) (r q : Scored) → AlphaSweepSays s levels n r → AlphaSweepSays s levels n q → r ≡ q
@@ -205,3 +208,31 @@ module _ (kind : Kind) (w h : ℕ) (room : h ≤ 256) where
     pub none-points : (target canvas : List Float) → noSums ≡ pointSums kind w h target canvas
     none-points target canvas =
         sym (points-none w target canvas runs top) ∙ ap (pointsAdded w target canvas runs top) (sym no-rows) ∙ reach-points target canvas
+
+-- the rows that were found, some or none
+module _ (kind : Kind) (w h : ℕ) (r : Rows) (e : ReachRowsSays kind w h r) where
+  pub some-reached : r .top < r .bottom → Reached kind w h (r .top) (r .bottom)
+  some-reached l = (ap (λ (q : Rows). q .top) e, ap (λ (q : Rows). q .bottom) e, l)
+
+  pub none-reached : r .bottom ≤ r .top → reachRows kind w h .bottom ≤ reachRows kind w h .top
+  none-reached l = subst (λ (q : Rows). q .bottom ≤ q .top) e l
+
+-- the runs over the rows that were found: what the loops ask, and what they come to
+module _ (kind : Kind) (w h : ℕ) (z : Sized w h) (top bottom : ℕ) (g : Reached kind w h top bottom) where
+  pub reached-high : (m : ℕ) → bottom * m ≤ h * m
+  reached-high m =
+      let n : bottom - 1 < h = through kind w h .inside (bottom - 1) (omega (arith, g .0, g .1, g .2)) (omega (arith, g .0, g .1, g .2)) in
+      mul-le-mul-right m (omega (arith, n, g .2))
+
+  pub reached-rows : (w ≤ 256) × (top ≤ bottom) × (bottom ≤ 256)
+  reached-rows = (z .w-high, omega (arith, g .2), omega (arith, reached-high 1, z .h-high))
+
+  module _ (runs : List ℕ) (f : RunsSays kind w h runs) where
+    pub reached-fit : RunsFit runs w top bottom
+    reached-fit = rw (g .0, g .1, f) (runs-fit kind w h (z .h-high))
+
+    pub reached-spans : (table : List Float) → runsAdded w table runs top (bottom - top) ≡ spanSums kind w h table
+    reached-spans table = rw (g .0, g .1, f) (reach-sums kind w h (z .h-high) table)
+
+    pub reached-points : (target canvas : List Float) → pointsAdded w target canvas runs top (bottom - top) ≡ pointSums kind w h target canvas
+    reached-points target canvas = rw (g .0, g .1, f) (reach-points kind w h (z .h-high) target canvas)

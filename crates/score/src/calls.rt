@@ -1,30 +1,12 @@
-// The calls: tests in the order of their numbers, then the work. A refused call has read what is lent and changed nothing.
+// The calls: tests, then the work. A refused call has read what is lent and changed nothing.
 ghost use mathlib.Core.Path.{_≡_};
-ghost use mathlib.Core.Bool.{true, false, _||_};
-ghost use mathlib.Core.List.{[], _∷_};
-ghost use Prim.Native.Nat.{_≤_, _*_, _+_};
+ghost use mathlib.Core.Bool.{false};
 ghost use lib.ListN.{length};
-ghost use Rattle.refusal.specs.Refusals.{Sized, lowest, sizeIf, lengthIf, countIf, placeIf, opacityIf, badSize};
-ghost use Rattle.refusal.specs.Lengths.{badPicture, badTable};
-ghost use Rattle.cover.specs.Cover.{badPlaces};
 ghost use Rattle.score.specs.declared.Request.the-variants.{Opacity};
-ghost use Rattle.score.specs.Finalize.{finalized};
-ghost use Rattle.float.specs.Within.{within};
-ghost use Rattle.score.specs.Usual.{Usual};
-ghost use Rattle.score.specs.RunSums.{Reached};
 ghost use Rattle.score.specs.Scoring.{
   answered,
-  spanSums,
-  pointSums,
   badCount,
-  badOpacity,
-  badLevels,
   scoreAt,
-  spanRefusal,
-  pointRefusal,
-  sweepRefusal,
-  spanSumsRefusal,
-  pointSumsRefusal,
   noneCollected,
   AlphaSweepSays,
   CollectSpanSumsSays,
@@ -43,42 +25,6 @@ use crate::Scored;
 use cover::Kind;
 use sums::ShapeSums;
 
-fn bad_count(request: Request) -> bool
-    ensures { λ r. ⌜ r ≡ badCount request ⌝ }
-{
-    match request {
-        Request::Opacity(_) => false,
-        Request::Levels(n) => (n < 1) | (64 < n),
-    }
-}
-
-fn bad_opacity(request: Request, levels: &[f32]) -> bool
-    requires { ⌜ (length (now levels) ≡ 64) × (badCount request ≡ false) ⌝ }
-    ensures { λ r. ⌜ r ≡ badOpacity request (now (levels .entry)) ⌝ }
-{
-    match request {
-        Request::Opacity(a) => !float::within(a),
-        Request::Levels(n) => !float::all_within(&levels[0..n]),
-    }
-}
-
-// The tests from 3 on.
-fn request_refusal(kind: Kind, request: Request, levels: &[f32]) -> u8
-    requires { ⌜ length (now levels) ≡ 64 ⌝ }
-    ensures { λ r. ⌜ r ≡ lowest (countIf (badCount request) ∷ placeIf (badPlaces kind) ∷ opacityIf (badOpacity request (now (levels .entry))) ∷ []) ⌝ }
-{
-    if bad_count(request) {
-        return refusal::COUNT;
-    }
-    if cover::bad_places(kind) {
-        return refusal::PLACE; // goes before the opacity
-    }
-    if bad_opacity(request, levels) {
-        return refusal::OPACITY;
-    }
-    0
-}
-
 fn score_at(s: ShapeSums, request: Request, levels: &[f32]) -> Score
     requires { ⌜ (length (now levels) ≡ 64) × (badCount request ≡ false) ⌝ }
     ensures { λ r. ⌜ r ≡ scoreAt s request (now (levels .entry)) ⌝ }
@@ -87,28 +33,6 @@ fn score_at(s: ShapeSums, request: Request, levels: &[f32]) -> Score
         Request::Opacity(a) => crate::finalize(s, a),
         Request::Levels(n) => crate::sweep(s, levels, n),
     }
-}
-
-fn span_refusal(
-    kind: Kind,
-    request: Request,
-    levels: &[f32],
-    w: usize,
-    h: usize,
-    table: &[f64],
-) -> u8
-    ensures { λ r. ⌜ r ≡ spanRefusal kind request (now (levels .entry)) w h (now (table .entry)) ⌝ }
-{
-    if refusal::bad_size(w, h) {
-        return refusal::SIZE;
-    }
-    if levels.len() != 64 {
-        return refusal::LENGTH;
-    }
-    if refusal::bad_table(w, h, table.len()) {
-        return refusal::LENGTH;
-    }
-    request_refusal(kind, request, levels)
 }
 
 // Number by number, so that the answer is not copied as a block of what was just written in parts.
@@ -125,55 +49,6 @@ fn done(s: Score) -> Scored
     })
 }
 
-// The one opacity that is asked for; for levels a NaN, which passes no test.
-fn asked(request: Request) -> f32
-    ensures { λ r. ⌜ (within r ≡ true → request ≡ Opacity r) ⌝ }
-{
-    match request {
-        Request::Opacity(a) => a,
-        Request::Levels(_) => 0.0 / 0.0,
-    }
-}
-
-// Sizes, levels and opacity pass their tests, in one go. Which one fails is left to the tests in order.
-fn usual(opacity: f32, levels: usize, w: usize, h: usize) -> bool
-    ensures { λ r. ⌜ (r ≡ true → Usual opacity levels w h) ⌝ }
-{
-    if refusal::bad_size(w, h) {
-        return false;
-    }
-    float::within(opacity) & (levels == 64)
-}
-
-fn usual_table(opacity: f32, levels: usize, w: usize, h: usize, table: usize) -> bool
-    ensures { λ r. ⌜ (r ≡ true → Usual opacity levels w h × (badTable w h table ≡ false)) ⌝ }
-{
-    if usual(opacity, levels, w, h) {
-        return !refusal::bad_table(w, h, table);
-    }
-    false
-}
-
-// The score at one opacity of a shape that reaches some rows, in a call that passed its tests.
-fn span_at(
-    kind: Kind,
-    opacity: f32,
-    top: usize,
-    bottom: usize,
-    w: usize,
-    h: usize,
-    table: &[f64],
-) -> Scored
-    requires sizes { ⌜ Sized w h ⌝ }
-    requires places { ⌜ badPlaces kind ≡ false ⌝ }
-    requires lent { ⌜ length (now table) ≡ h * (w + 1) * 15 ⌝ }
-    requires rows { ⌜ Reached kind w h top bottom ⌝ }
-    ensures { λ r. ⌜ r ≡ answered 0 (finalized (spanSums kind w h (now (table .entry))) opacity) ⌝ }
-{
-    let sums = crate::spans::reached_sums(kind, top, bottom, w, h, table);
-    done(crate::finalize(sums, opacity))
-}
-
 // The score of a shape from a table, at one opacity or over the first of the lent levels. At one opacity the tests come in one
 // go, and where the shape reaches no row nothing else is set up.
 pub fn span_score(
@@ -186,17 +61,16 @@ pub fn span_score(
 ) -> Scored
     ensures { λ r. ⌜ SpanScoreSays kind request (now (levels .entry)) w h (now (table .entry)) r ⌝ }
 {
-    let opacity = asked(request);
-    if usual_table(opacity, levels.len(), w, h, table.len()) {
-        if !cover::bad_places(kind) {
-            let rows = cover::reached::reach_rows(kind, w, h);
-            let top = rows.top;
-            let bottom = rows.bottom;
-            if bottom <= top {
-                return Scored::Done(crate::no_score(opacity, 0));
-            }
-            return span_at(kind, opacity, top, bottom, w, h, table);
+    let opacity = crate::tests::asked(request);
+    if crate::tests::usual_table(kind, opacity, levels.len(), w, h, table.len()) {
+        let rows = cover::reached::reach_rows(kind, w, h);
+        let top = rows.top;
+        let bottom = rows.bottom;
+        if bottom <= top {
+            return Scored::Done(crate::no_score(opacity, 0));
         }
+        let sums = crate::spans::reached_sums(kind, top, bottom, w, h, table);
+        return done(crate::finalize(sums, opacity));
     }
     tested_span_score(kind, request, levels, w, h, table)
 }
@@ -212,108 +86,12 @@ fn tested_span_score(
 ) -> Scored
     ensures { λ r. ⌜ SpanScoreSays kind request (now (levels .entry)) w h (now (table .entry)) r ⌝ }
 {
-    let no = span_refusal(kind, request, levels, w, h, table);
+    let no = crate::tests::span_refusal(kind, request, levels, w, h, table);
     if no != 0 {
         return Scored::Refused(no);
     }
     let sums = crate::spans::span_sums(kind, w, h, table);
     Scored::Done(score_at(sums, request, levels))
-}
-
-// One of the two pictures has another length. Sizes are tested before.
-fn bad_pictures(w: usize, h: usize, target: usize, canvas: usize) -> bool
-    requires { ⌜ (w ≤ 256) × (h ≤ 256) ⌝ }
-    ensures { λ r. ⌜ r ≡ badPicture w h target || badPicture w h canvas ⌝ }
-{
-    if refusal::bad_picture(w, h, target) {
-        return true;
-    }
-    refusal::bad_picture(w, h, canvas)
-}
-
-fn point_refusal(
-    kind: Kind,
-    request: Request,
-    levels: &[f32],
-    w: usize,
-    h: usize,
-    target: &[f32],
-    canvas: &[f32],
-) -> u8
-    ensures { λ r. ⌜ r ≡ pointRefusal kind request (now (levels .entry)) w h (now (target .entry)) (now (canvas .entry)) ⌝ }
-{
-    if refusal::bad_size(w, h) {
-        return refusal::SIZE;
-    }
-    if levels.len() != 64 {
-        return refusal::LENGTH;
-    }
-    if bad_pictures(w, h, target.len(), canvas.len()) {
-        return refusal::LENGTH;
-    }
-    request_refusal(kind, request, levels)
-}
-
-fn usual_pictures(
-    opacity: f32,
-    levels: usize,
-    w: usize,
-    h: usize,
-    target: usize,
-    canvas: usize,
-) -> bool
-    ensures { λ r. ⌜ (r ≡ true → Usual opacity levels w h × (badPicture w h target || badPicture w h canvas ≡ false)) ⌝ }
-{
-    if usual(opacity, levels, w, h) {
-        return !bad_pictures(w, h, target, canvas);
-    }
-    false
-}
-
-fn point_at(
-    kind: Kind,
-    opacity: f32,
-    top: usize,
-    bottom: usize,
-    w: usize,
-    h: usize,
-    target: &[f32],
-    canvas: &[f32],
-) -> Scored
-    requires sizes { ⌜ Sized w h ⌝ }
-    requires places { ⌜ badPlaces kind ≡ false ⌝ }
-    requires lent { ⌜ (length (now target) ≡ h * w * 3) × (length (now canvas) ≡ h * w * 3) ⌝ }
-    requires rows { ⌜ Reached kind w h top bottom ⌝ }
-    ensures { λ r. ⌜ r ≡ answered 0 (finalized (pointSums kind w h (now (target .entry)) (now (canvas .entry))) opacity) ⌝ }
-{
-    let sums = crate::points::reached_sums(kind, top, bottom, w, h, target, canvas);
-    done(crate::finalize(sums, opacity))
-}
-
-fn point_score(
-    kind: Kind,
-    request: Request,
-    levels: &[f32],
-    w: usize,
-    h: usize,
-    target: &[f32],
-    canvas: &[f32],
-) -> Scored
-    ensures { λ r. ⌜ PointScoreSays kind request (now (levels .entry)) w h (now (target .entry)) (now (canvas .entry)) r ⌝ }
-{
-    let opacity = asked(request);
-    if usual_pictures(opacity, levels.len(), w, h, target.len(), canvas.len()) {
-        if !cover::bad_places(kind) {
-            let rows = cover::reached::reach_rows(kind, w, h);
-            let top = rows.top;
-            let bottom = rows.bottom;
-            if bottom <= top {
-                return Scored::Done(crate::no_score(opacity, 0));
-            }
-            return point_at(kind, opacity, top, bottom, w, h, target, canvas);
-        }
-    }
-    tested_point_score(kind, request, levels, w, h, target, canvas)
 }
 
 fn tested_point_score(
@@ -327,7 +105,7 @@ fn tested_point_score(
 ) -> Scored
     ensures { λ r. ⌜ PointScoreSays kind request (now (levels .entry)) w h (now (target .entry)) (now (canvas .entry)) r ⌝ }
 {
-    let no = point_refusal(kind, request, levels, w, h, target, canvas);
+    let no = crate::tests::point_refusal(kind, request, levels, w, h, target, canvas);
     if no != 0 {
         return Scored::Refused(no);
     }
@@ -349,15 +127,27 @@ pub fn circle_point_score(
 ) -> Scored
     ensures { λ s. ⌜ CirclePointScoreSays cx cy r request (now (levels .entry)) w h (now (target .entry)) (now (canvas .entry)) s ⌝ }
 {
-    point_score(
-        Kind::Circle(cx, cy, r),
-        request,
-        levels,
+    let kind = Kind::Circle(cx, cy, r);
+    let opacity = crate::tests::asked(request);
+    if crate::tests::usual_pictures(
+        kind,
+        opacity,
+        levels.len(),
         w,
         h,
-        target,
-        canvas,
-    )
+        target.len(),
+        canvas.len(),
+    ) {
+        let rows = cover::reached::reach_rows(kind, w, h);
+        let top = rows.top;
+        let bottom = rows.bottom;
+        if bottom <= top {
+            return Scored::Done(crate::no_score(opacity, 0));
+        }
+        let sums = crate::points::reached_sums(kind, top, bottom, w, h, target, canvas);
+        return done(crate::finalize(sums, opacity));
+    }
+    tested_point_score(kind, request, levels, w, h, target, canvas)
 }
 
 // The same of a triangle.
@@ -377,71 +167,38 @@ pub fn triangle_point_score(
 ) -> Scored
     ensures { λ s. ⌜ TrianglePointScoreSays x0 y0 x1 y1 x2 y2 request (now (levels .entry)) w h (now (target .entry)) (now (canvas .entry)) s ⌝ }
 {
-    point_score(
-        Kind::Triangle(x0, y0, x1, y1, x2, y2),
-        request,
-        levels,
+    let kind = Kind::Triangle(x0, y0, x1, y1, x2, y2);
+    let opacity = crate::tests::asked(request);
+    if crate::tests::usual_pictures(
+        kind,
+        opacity,
+        levels.len(),
         w,
         h,
-        target,
-        canvas,
-    )
-}
-
-fn sweep_refusal(levels: &[f32], n: usize) -> u8
-    ensures { λ r. ⌜ r ≡ sweepRefusal (now (levels .entry)) n ⌝ }
-{
-    if levels.len() != 64 {
-        return refusal::LENGTH;
+        target.len(),
+        canvas.len(),
+    ) {
+        let rows = cover::reached::reach_rows(kind, w, h);
+        let top = rows.top;
+        let bottom = rows.bottom;
+        if bottom <= top {
+            return Scored::Done(crate::no_score(opacity, 0));
+        }
+        let sums = crate::points::reached_sums(kind, top, bottom, w, h, target, canvas);
+        return done(crate::finalize(sums, opacity));
     }
-    if bad_count(Request::Levels(n)) {
-        return refusal::COUNT;
-    }
-    if bad_opacity(Request::Levels(n), levels) {
-        return refusal::OPACITY;
-    }
-    0
+    tested_point_score(kind, request, levels, w, h, target, canvas)
 }
 
 // The best of the first n lent levels for sums that were collected before.
 pub fn alpha_sweep(s: ShapeSums, levels: &[f32], n: usize) -> Scored
     ensures { λ r. ⌜ AlphaSweepSays s (now (levels .entry)) n r ⌝ }
 {
-    let no = sweep_refusal(levels, n);
+    let no = crate::tests::sweep_refusal(levels, n);
     if no != 0 {
         return Scored::Refused(no);
     }
     Scored::Done(crate::sweep(s, levels, n))
-}
-
-fn span_sums_refusal(kind: Kind, w: usize, h: usize, table: &[f64]) -> u8
-    ensures { λ r. ⌜ r ≡ spanSumsRefusal kind w h (now (table .entry)) ⌝ }
-{
-    if refusal::bad_size(w, h) {
-        return refusal::SIZE;
-    }
-    if refusal::bad_table(w, h, table.len()) {
-        return refusal::LENGTH;
-    }
-    if cover::bad_places(kind) {
-        return refusal::PLACE;
-    }
-    0
-}
-
-fn point_sums_refusal(kind: Kind, w: usize, h: usize, target: &[f32], canvas: &[f32]) -> u8
-    ensures { λ r. ⌜ r ≡ pointSumsRefusal kind w h (now (target .entry)) (now (canvas .entry)) ⌝ }
-{
-    if refusal::bad_size(w, h) {
-        return refusal::SIZE;
-    }
-    if bad_pictures(w, h, target.len(), canvas.len()) {
-        return refusal::LENGTH;
-    }
-    if cover::bad_places(kind) {
-        return refusal::PLACE;
-    }
-    0
 }
 
 // Refused: no sums.
@@ -459,7 +216,7 @@ fn no_sums(no: u8) -> Collected
 pub fn collect_span_sums(kind: Kind, w: usize, h: usize, table: &[f64]) -> Collected
     ensures { λ r. ⌜ CollectSpanSumsSays kind w h (now (table .entry)) r ⌝ }
 {
-    let no = span_sums_refusal(kind, w, h, table);
+    let no = crate::tests::span_sums_refusal(kind, w, h, table);
     if no != 0 {
         return no_sums(no);
     }
@@ -473,7 +230,7 @@ pub fn collect_span_sums(kind: Kind, w: usize, h: usize, table: &[f64]) -> Colle
 fn collect_point_sums(kind: Kind, w: usize, h: usize, target: &[f32], canvas: &[f32]) -> Collected
     ensures { λ r. ⌜ CollectPointSumsSays kind w h (now (target .entry)) (now (canvas .entry)) r ⌝ }
 {
-    let no = point_sums_refusal(kind, w, h, target, canvas);
+    let no = crate::tests::point_sums_refusal(kind, w, h, target, canvas);
     if no != 0 {
         return no_sums(no);
     }

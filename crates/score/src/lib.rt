@@ -19,6 +19,7 @@ pub mod calls;
 pub mod levels;
 mod points;
 mod spans;
+mod tests;
 
 // A shape's score: the opacity it was scored at, how many pixels it covers, the change of the squared error, its colour.
 pub struct Score {

@@ -197,7 +197,8 @@ pub(crate) fn reached_sums(
     push_rows(&runs, top, bottom, target, canvas, w)
 }
 
-// The sums of a shape whose sizes and places were tested, over the rows of its reach.
+// The sums of a shape whose sizes and places were tested, over the rows of its reach. `push_rows` has two callers, so that the compiler keeps
+// it apart and inlines `reached_sums`, which then takes no shape through memory.
 pub(crate) fn point_sums(
     kind: Kind,
     w: usize,
@@ -216,5 +217,7 @@ pub(crate) fn point_sums(
     if bottom <= top {
         return ShapeSums::new();
     }
-    reached_sums(kind, top, bottom, w, h, target, canvas)
+    let mut runs = [0u16; 512];
+    cover::runs(kind, w, h, &mut runs);
+    push_rows(&runs, top, bottom, target, canvas, w)
 }

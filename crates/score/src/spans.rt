@@ -58,7 +58,8 @@ pub(crate) fn reached_sums(
     add_rows(&runs, top, bottom, table, w)
 }
 
-// The sums of a shape whose sizes and places were tested, over the rows of its reach.
+// The sums of a shape whose sizes and places were tested, over the rows of its reach. `add_rows` has two callers, so that the compiler keeps
+// it apart and inlines `reached_sums`, which then takes no shape through memory.
 pub(crate) fn span_sums(kind: Kind, w: usize, h: usize, table: &[f64]) -> ShapeSums
     requires sizes { ⌜ Sized w h ⌝ }
     requires places { ⌜ badPlaces kind ≡ false ⌝ }
@@ -71,5 +72,7 @@ pub(crate) fn span_sums(kind: Kind, w: usize, h: usize, table: &[f64]) -> ShapeS
     if bottom <= top {
         return ShapeSums::new();
     }
-    reached_sums(kind, top, bottom, w, h, table)
+    let mut runs = [0u16; 512];
+    cover::runs(kind, w, h, &mut runs);
+    add_rows(&runs, top, bottom, table, w)
 }

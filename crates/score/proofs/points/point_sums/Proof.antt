@@ -1,11 +1,11 @@
 -- `score::points::point_sums` meets its contract: over the rows of the reach, or none.
-use mathlib.Core.Path.{_≡_, sym, _∙_, ap}
-use Prim.Native.Nat.{_≤_, _<_}
+use mathlib.Core.Path.{refl, _∙_}
+use Prim.Native.Nat.{_*_}
 use native.Mathlib.Omega.{arith}
 use borrow.Author.Needs.{needs}
-use Rattle.cover.specs.ReachRows.{reachRows}
-use Rattle.cover.specs.declared.reached.Rows.{Rows}
-use Rattle.score.specs.ScoringLaws.{none-points}
+use Rattle.laws.specs.Blank.{blank}
+use Rattle.score.specs.RunSums.{Reached}
+use Rattle.score.specs.ScoringLaws.{none-points, some-reached, none-reached, reached-high, reached-rows, reached-fit, reached-points}
 use Rattle.score.proofs.points.point_sums.Statement.{statement}
 use Rattle.score.proofs.points.point_sums.Tie as tie
 
@@ -15,34 +15,43 @@ reach-rows-requires c κs = search needs
 new-requires : tie.Need-new-requires
 new-requires c κs = search needs
 
-module _ (c : tie.After-reach-rows) where
-  abbrev start : tie.Start
-  start = c .before .before .before
-
-  top-is : c .reach-rows .result .top ≡ reachRows (start .args .kind) (start .args .w) (start .args .h) .top
-  top-is = ap (λ (r : Rows). r .top) (c .reach-rows .ensures)
-
-  bottom-is : c .reach-rows .result .bottom ≡ reachRows (start .args .kind) (start .args .w) (start .args .h) .bottom
-  bottom-is = ap (λ (r : Rows). r .bottom) (c .reach-rows .ensures)
-
 returns : tie.Need-returns
 returns c =
     let r = c .before .before in
-    let s = start r in
+    let s = r .before .before .before in
     let a = s .args in
-    let z : reachRows (a .kind) (a .w) (a .h) .bottom ≤ reachRows (a .kind) (a .w) (a .h) .top = omega (arith, c .before .if1 .taken, top-is r, bottom-is r) in
-    c .new .ensures ∙ none-points (a .kind) (a .w) (a .h) (s .pre .0 .h-high) z (a .target .now) (a .canvas .now)
+    c .new .ensures
+    ∙ none-points (a .kind) (a .w) (a .h) (s .pre .0 .h-high) (none-reached (a .kind) (a .w) (a .h) (r .reach-rows .result) (r .reach-rows .ensures) (c .before .if1 .taken)) (a .target .now) (a .canvas .now)
 
-reached-sums-requires : tie.Need-reached-sums-requires
-reached-sums-requires c κs =
-    let r = c .before in
-    let s = start r in
-    let l : r .reach-rows .result .top < r .reach-rows .result .bottom = omega (arith, c .if1 .left) in
-    (s .pre .0, (s .pre .1 .0, (s .pre .1 .1, (top-is r, bottom-is r, l))))
+module _ (c : tie.Else1) where
+  abbrev start : tie.Start
+  start = c .before .before .before .before
+
+  reached : Reached (start .args .kind) (start .args .w) (start .args .h) (c .before .reach-rows .result .top) (c .before .reach-rows .result .bottom)
+  reached = let a = start .args in some-reached (a .kind) (a .w) (a .h) (c .before .reach-rows .result) (c .before .reach-rows .ensures) (omega (arith, c .if1 .left))
+
+runs-requires : tie.Need-runs-requires
+unfolding blank
+runs-requires c κs = let s = start (c .before) in (s .pre .0, (s .pre .1 .0, refl))
+
+push-rows-requires : tie.Need-push-rows-requires
+push-rows-requires c κs =
+    let t = c .before .before .before in
+    let r = t .before .reach-rows .result in
+    let s = start t in
+    let a = s .args in
+    let k = reached-rows (a .kind) (a .w) (a .h) (s .pre .0) (r .top) (r .bottom) (reached t) in
+    let m = reached-high (a .kind) (a .w) (a .h) (s .pre .0) (r .top) (r .bottom) (reached t) (a .w * 3) in
+    ((k .0, k .1, k .2, omega (arith, m, s .pre .1 .1 .0), omega (arith, m, s .pre .1 .1 .1)), reached-fit (a .kind) (a .w) (a .h) (s .pre .0) (r .top) (r .bottom) (reached t) _ (c .before .runs2 .ensures))
 
 returns-2 : tie.Need-returns-2
-returns-2 c = c .reached-sums .ensures
+returns-2 c =
+    let t = c .before .before .before .before in
+    let r = t .before .reach-rows .result in
+    let s = start t in
+    let a = s .args in
+    c .push-rows .ensures ∙ reached-points (a .kind) (a .w) (a .h) (s .pre .0) (r .top) (r .bottom) (reached t) _ (c .before .before .runs2 .ensures) (a .target .now) (a .canvas .now)
 
 pub point-sums-spec : {M : Type 1} → statement M
 point-sums-spec =
-    tie.close (tie.spec reach-rows-requires new-requires returns reached-sums-requires returns-2)
+    tie.close (tie.spec reach-rows-requires new-requires returns runs-requires push-rows-requires returns-2)

@@ -1,11 +1,11 @@
--- `score::calls::usual_pictures` meets its contract: the usual numbers, and the pictures have the length that belongs to them.
+-- `score::tests::usual_pictures` meets its contract: the usual numbers, and the pictures have the length that belongs to them.
 use mathlib.Core.Path.{refl, sym, _∙_}
 use Rattle.laws.specs.Fit.{no-both}
 use Rattle.refusal.specs.RefusalLaws.{sized}
 use Rattle.score.specs.CallLaws.{not-holds}
 use borrow.Author.Needs.{needs}
-use Rattle.score.proofs.calls.usual_pictures.Statement.{statement}
-use Rattle.score.proofs.calls.usual_pictures.Tie as tie
+use Rattle.score.proofs.tests.usual_pictures.Statement.{statement}
+use Rattle.score.proofs.tests.usual_pictures.Tie as tie
 
 usual-requires : tie.Need-usual-requires
 usual-requires c κs = search needs

@@ -1,4 +1,4 @@
--- `score::calls::point_refusal` meets its contract: the tests come in the order of their numbers.
+-- `score::tests::point_refusal` meets its contract: the tests come in the order of their numbers.
 use mathlib.Core.Path.{sym, _∙_, ap}
 use mathlib.Core.Bool.{not, _||_}
 use mathlib.Core.List.{[], _∷_}
@@ -12,8 +12,8 @@ use Rattle.score.specs.Scoring.{badCount, badOpacity, badLevels, pointRe
 use Rattle.score.specs.CallLaws.{size-first, length-next, others-next, or-first, or-second, or-neither}
 use native.Mathlib.Omega.{arith}
 use borrow.Author.Needs.{needs}
-use Rattle.score.proofs.calls.point_refusal.Statement.{statement}
-use Rattle.score.proofs.calls.point_refusal.Tie as tie
+use Rattle.score.proofs.tests.point_refusal.Statement.{statement}
+use Rattle.score.proofs.tests.point_refusal.Tie as tie
 
 bad-size-requires : tie.Need-bad-size-requires
 bad-size-requires c κs = search needs

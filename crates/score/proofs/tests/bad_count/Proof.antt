@@ -1,10 +1,10 @@
--- `score::calls::bad_count` meets its contract, by cases on the request.
+-- `score::tests::bad_count` meets its contract, by cases on the request.
 use mathlib.Core.Path.{sym, ap}
 use Rattle.score.specs.Scoring.{badCount}
 use native.Mathlib.Omega.{arith}
 use borrow.Author.Needs.{needs}
-use Rattle.score.proofs.calls.bad_count.Statement.{statement}
-use Rattle.score.proofs.calls.bad_count.Tie as tie
+use Rattle.score.proofs.tests.bad_count.Statement.{statement}
+use Rattle.score.proofs.tests.bad_count.Tie as tie
 
 enum-told : tie.Need-enum-told
 enum-told c = search needs

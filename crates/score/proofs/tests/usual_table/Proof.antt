@@ -1,11 +1,11 @@
--- `score::calls::usual_table` meets its contract: the usual numbers, and the table has the length that belongs to them.
+-- `score::tests::usual_table` meets its contract: the usual numbers, and the table has the length that belongs to them.
 use mathlib.Core.Path.{refl, sym, _∙_}
 use Rattle.laws.specs.Fit.{no-both}
 use Rattle.refusal.specs.RefusalLaws.{sized}
 use Rattle.score.specs.CallLaws.{not-holds}
 use borrow.Author.Needs.{needs}
-use Rattle.score.proofs.calls.usual_table.Statement.{statement}
-use Rattle.score.proofs.calls.usual_table.Tie as tie
+use Rattle.score.proofs.tests.usual_table.Statement.{statement}
+use Rattle.score.proofs.tests.usual_table.Tie as tie
 
 usual-requires : tie.Need-usual-requires
 usual-requires c κs = search needs

@@ -1,4 +1,4 @@
--- `score::calls::point_sums_refusal` meets its contract: the tests come in the order of their numbers.
+-- `score::tests::point_sums_refusal` meets its contract: the tests come in the order of their numbers.
 use mathlib.Core.Path.{sym, _∙_}
 use mathlib.Core.Bool.{_||_}
 use lib.ListN.{length}
@@ -10,8 +10,8 @@ use Rattle.cover.specs.Cover.{badPlaces}
 use Rattle.score.specs.Scoring.{pointSumsRefusal}
 use native.Mathlib.Omega.{arith}
 use borrow.Author.Needs.{needs}
-use Rattle.score.proofs.calls.point_sums_refusal.Statement.{statement}
-use Rattle.score.proofs.calls.point_sums_refusal.Tie as tie
+use Rattle.score.proofs.tests.point_sums_refusal.Statement.{statement}
+use Rattle.score.proofs.tests.point_sums_refusal.Tie as tie
 
 bad-size-requires : tie.Need-bad-size-requires
 bad-size-requires c κs = search needs

@@ -1,12 +1,12 @@
--- `score::calls::bad_pictures` meets its contract: the second is looked at where the first has its length.
+-- `score::tests::bad_pictures` meets its contract: the second is looked at where the first has its length.
 use mathlib.Core.Path.{sym, _∙_, ap}
 use mathlib.Core.Bool.{Bool, _||_}
 use Rattle.refusal.specs.Lengths.{badPicture}
 use Rattle.score.specs.CallLaws.{or-first}
 use native.Mathlib.Omega.{arith}
 use borrow.Author.Needs.{needs}
-use Rattle.score.proofs.calls.bad_pictures.Statement.{statement}
-use Rattle.score.proofs.calls.bad_pictures.Tie as tie
+use Rattle.score.proofs.tests.bad_pictures.Statement.{statement}
+use Rattle.score.proofs.tests.bad_pictures.Tie as tie
 
 bad-picture-requires : tie.Need-bad-picture-requires
 bad-picture-requires c κs = search needs

@@ -1,4 +1,4 @@
--- `score::calls::bad_opacity` meets its contract, by cases on the request.
+-- `score::tests::bad_opacity` meets its contract, by cases on the request.
 use mathlib.Core.Path.{_≡_, sym, _∙_, ap}
 use mathlib.Core.Bool.{not}
 use Prim.Native.Nat.{ℕ, _-_, _≤_}
@@ -9,8 +9,8 @@ use Rattle.score.specs.Scoring.{badCount, badOpacity}
 use Rattle.score.specs.ScoringLaws.{count-range}
 use native.Mathlib.Omega.{arith}
 use borrow.Author.Needs.{needs}
-use Rattle.score.proofs.calls.bad_opacity.Statement.{statement}
-use Rattle.score.proofs.calls.bad_opacity.Tie as tie
+use Rattle.score.proofs.tests.bad_opacity.Statement.{statement}
+use Rattle.score.proofs.tests.bad_opacity.Tie as tie
 
 enum-known-request : tie.Need-enum-known-request
 enum-known-request c = search needs

@@ -1,4 +1,4 @@
--- `score::calls::request_refusal` meets its contract: the tests come in the order of their numbers.
+-- `score::tests::request_refusal` meets its contract: the tests come in the order of their numbers.
 use mathlib.Core.Path.{sym, _∙_}
 use mathlib.Core.List.{[], _∷_}
 use Rattle.refusal.specs.Refusals.{countIf, placeIf, opacityIf}
@@ -7,8 +7,8 @@ use Rattle.cover.specs.Cover.{badPlaces}
 use Rattle.score.specs.Scoring.{badCount, badOpacity}
 use native.Mathlib.Omega.{arith}
 use borrow.Author.Needs.{needs}
-use Rattle.score.proofs.calls.request_refusal.Statement.{statement}
-use Rattle.score.proofs.calls.request_refusal.Tie as tie
+use Rattle.score.proofs.tests.request_refusal.Statement.{statement}
+use Rattle.score.proofs.tests.request_refusal.Tie as tie
 
 bad-count-requires : tie.Need-bad-count-requires
 bad-count-requires c κs = search needs

@@ -1,10 +1,10 @@
--- `score::calls::sweep_refusal` meets its contract: the tests come in the order of their numbers.
+-- `score::tests::sweep_refusal` meets its contract: the tests come in the order of their numbers.
 use mathlib.Core.Path.{sym, _∙_}
 use Rattle.score.specs.CallLaws.{sweep-length, sweep-count, sweep-opacity, sweep-none}
 use native.Mathlib.Omega.{arith}
 use borrow.Author.Needs.{needs}
-use Rattle.score.proofs.calls.sweep_refusal.Statement.{statement}
-use Rattle.score.proofs.calls.sweep_refusal.Tie as tie
+use Rattle.score.proofs.tests.sweep_refusal.Statement.{statement}
+use Rattle.score.proofs.tests.sweep_refusal.Tie as tie
 
 returns : tie.Need-returns
 returns c = let a = c .before .before .args in sweep-length (a .levels .now) (a .n) (c .if1 .taken)

@@ -1,11 +1,11 @@
--- `score::calls::asked` meets its contract: a NaN is not within 0..1.
+-- `score::tests::asked` meets its contract: a NaN is not within 0..1.
 use mathlib.Core.Path.{refl}
 use lib.Ieee.{ofBits, div, le, round}
 use Rattle.laws.specs.Fit.{no-both}
 use Rattle.float.specs.Within.{within}
 use borrow.Author.Needs.{needs}
-use Rattle.score.proofs.calls.asked.Statement.{statement}
-use Rattle.score.proofs.calls.asked.Tie as tie
+use Rattle.score.proofs.tests.asked.Statement.{statement}
+use Rattle.score.proofs.tests.asked.Tie as tie
 
 enum-known-request : tie.Need-enum-known-request
 enum-known-request c = search needs
