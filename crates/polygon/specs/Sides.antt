@@ -47,6 +47,11 @@ line s i j p = ring (s ∷ i .px ∷ i .py ∷ j .px ∷ j .py ∷ p .px ∷ p .
     (x 0 ⊠ ((x 3 ⊟ x 1) ⊠ (x 6 ⊟ x 2) ⊟ (x 4 ⊟ x 2) ⊠ (x 5 ⊟ x 1)))
     ((x 0 ⊠ (x 2 ⊟ x 4)) ⊠ x 5 ⊞ (x 0 ⊠ ((x 4 ⊟ x 2) ⊠ x 1 ⊟ (x 3 ⊟ x 1) ⊠ x 2) ⊞ (x 0 ⊠ (x 3 ⊟ x 1)) ⊠ x 6)) tt
 
+-- from a corner to itself there is no side
+pub no-side : (s : ℤ) (i p : Point) → s *ℤ side i i p ≡ pos 0
+no-side s i p =
+    ring (s ∷ i .px ∷ i .py ∷ p .px ∷ p .py ∷ []) (x 0 ⊠ ((x 1 ⊟ x 1) ⊠ (x 4 ⊟ x 2) ⊟ (x 2 ⊟ x 2) ⊠ (x 3 ⊟ x 1))) (c (pos 0)) tt
+
 -- a line that is not negative at two places is not negative between them
 between : (a b u m w : ℤ) → u ≤ℤ m → m ≤ℤ w → pos 0 ≤ℤ (a *ℤ u +ℤ b) → pos 0 ≤ℤ (a *ℤ w +ℤ b) → pos 0 ≤ℤ (a *ℤ m +ℤ b)
 between a b u m w h l f g = ⊎-elim rising falling (≤ℤ-or-<ℤ (pos 0) a)

@@ -166,6 +166,7 @@ fn cut_row(xi: i32, yi: i32, xj: i32, yj: i32, sign: i32, y: usize, lo: usize, h
 }
 
 // The run of a row from its corners alone. What is an edge's own is the same in every row: in a loop the compiler works it out before.
+// The edge that a triangle has not stands last, and the test for it is the same in every row too: a triangle's loop has three edges.
 fn quad_row(
     x0: i32,
     y0: i32,
@@ -186,8 +187,11 @@ fn quad_row(
 {
     let a = cut_row(x0, y0, x1, y1, sign, y, 0, w);
     let b = cut_row(x1, y1, x2, y2, sign, y, a.left, a.right);
-    let c = cut_row(x2, y2, x3, y3, sign, y, b.left, b.right);
-    let d = cut_row(x3, y3, x0, y0, sign, y, c.left, c.right);
+    let c = cut_row(x3, y3, x0, y0, sign, y, b.left, b.right);
+    if (x2 == x3) & (y2 == y3) {
+        return closed(c.left, c.right);
+    }
+    let d = cut_row(x2, y2, x3, y3, sign, y, c.left, c.right);
     closed(d.left, d.right)
 }
 

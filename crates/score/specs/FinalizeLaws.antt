@@ -1,5 +1,6 @@
 -- Laws: one answer meets the promise of `finalize`.
 use mathlib.Core.Path.{_≡_, sym, _∙_}
+use Prim.Native.Nat.{ℕ}
 use borrow.Author.Tests.{eq-eqb, ne-eqb}
 use lib.Ieee.{Float}
 use Rattle.laws.specs.F64.{_⊕_, _⊖_, _⊗_}
@@ -14,20 +15,26 @@ pub FinalizeSays-unique : (s : ShapeSums) (a : Float) (r q : Score) → Finalize
 FinalizeSays-unique s a r q f g = f ∙ sym g
 
 -- the code's steps, over plain numbers
-module _ (s : ShapeSums) (opacity a m n p0 p1 p2 e0 e1 e2 before ch : Float) where
-  pub finalized-steps : (s .count ≡ 0 → ⊥) → a ≡ opacity → m ≡ rest opacity → n ≡ countOf s
-      → p0 ≡ colourOf (channel (s .«s_t») 0) (channel (s .«s_c») 0) m (a ⊗ n)
-      → p1 ≡ colourOf (channel (s .«s_t») 1) (channel (s .«s_c») 1) m (a ⊗ n)
-      → p2 ≡ colourOf (channel (s .«s_t») 2) (channel (s .«s_c») 2) m (a ⊗ n)
+module _ (s : ShapeSums) (a m n : Float) (hm : m ≡ rest a) (hn : n ≡ countOf s) where
+  pub colour-step : (p : Float) (ch : ℕ) → p ≡ colourOf (channel (s .«s_t») ch) (channel (s .«s_c») ch) m (a ⊗ n)
+      → p ≡ colourAt s a ch
+  unfolding colourAt
+  colour-step p ch h = simp (h, hm, hn)
+
+  pub after-steps : (p0 p1 p2 e0 e1 e2 : Float) → (p0 ≡ colourAt s a 0) × (p1 ≡ colourAt s a 1) × (p2 ≡ colourAt s a 2)
       → e0 ≡ errorAfter (channel (s .«s_t2») 0) (channel (s .«s_tc») 0) (channel (s .«s_c2») 0) (channel (s .«s_t») 0) (channel (s .«s_c») 0) a m p0 n
       → e1 ≡ errorAfter (channel (s .«s_t2») 1) (channel (s .«s_tc») 1) (channel (s .«s_c2») 1) (channel (s .«s_t») 1) (channel (s .«s_c») 1) a m p1 n
       → e2 ≡ errorAfter (channel (s .«s_t2») 2) (channel (s .«s_tc») 2) (channel (s .«s_c2») 2) (channel (s .«s_t») 2) (channel (s .«s_c») 2) a m p2 n
-      → before ≡ overChannels (beforeAt s)
-      → ch ≡ narrowed ((nought ⊕ e0 ⊕ e1 ⊕ e2) ⊖ before)
+      → nought ⊕ e0 ⊕ e1 ⊕ e2 ≡ overChannels (afterAt s a)
+  unfolding afterAt
+  after-steps p0 p1 p2 e0 e1 e2 h l0 l1 l2 = simp (l0, l1, l2, h .0, h .1, h .2, hm, hn)
+
+module _ (s : ShapeSums) (opacity a after before ch : Float) (he : a ≡ opacity) where
+  pub finalized-steps : (p0 p1 p2 : Float) → (s .count ≡ 0 → ⊥) → (p0 ≡ colourAt s a 0) × (p1 ≡ colourAt s a 1) × (p2 ≡ colourAt s a 2)
+      → after ≡ overChannels (afterAt s a) → before ≡ overChannels (beforeAt s) → ch ≡ narrowed (after ⊖ before)
       → _≡_ {A = Score} (record { opacity = opacity; count = s .count; change = ch; red = p0; green = p1; blue = p2 }) (finalized s opacity)
-  unfolding finalized wideChange afterAt colourAt
-  finalized-steps z ha hm hn h0 h1 h2 l0 l1 l2 hb hc =
-      simp (ne-eqb (s .count) 0 z, hc, hb, l0, l1, l2, h0, h1, h2, ha, hm, hn)
+  unfolding finalized wideChange
+  finalized-steps p0 p1 p2 z h ha hb hc = simp (ne-eqb (s .count) 0 z, hc, ha, hb, h .0, h .1, h .2, he)
 
 pub finalized-none : (s : ShapeSums) (a : Float) → s .count ≡ 0 → noScore a 0 ≡ finalized s a
 unfolding finalized

@@ -1,6 +1,7 @@
 -- Laws: what is worked out from the first level on is the first level with the strictly smallest change, or none is below infinity.
 use mathlib.Core.Path.{_≡_, refl, sym, _∙_, ap, subst}
 use mathlib.Core.Bool.{Bool, true, false, not}
+use mathlib.Core.List.{List}
 use mathlib.Core.Logic.{_⊎_, inl, inr, ⊎-elim}
 use Prim.Native.Nat.{ℕ, zero, suc, _+_, _≤_, _<_}
 use native.Mathlib.Numerals.{add-one}
@@ -12,6 +13,9 @@ use Rattle.laws.specs.Bools.{is-true, true-is, true-or-false}
 use Rattle.laws.specs.Fit.{no-both}
 use Rattle.float.specs.Within.{number}
 use Rattle.float.specs.OrderLaws.{le-is, lt-skip, lt-numbers, lt-asym, lt-trans, le-numbers}
+use Rattle.sums.specs.declared.ShapeSums.{ShapeSums}
+use Rattle.score.specs.Finalize.{noScore, finalized}
+use Rattle.score.specs.Swept.{level, changeOf, sweptAt}
 use Rattle.score.specs.Sweep.{Best, Found, nowhere, at, changeAt, better, bestOf}
 
 -- no change is below infinity, or i is the best
@@ -124,3 +128,21 @@ module _ (change : ℕ → Float) (k : ℕ) where
   pub bestOf-kept : lt (change k) (changeAt change (bestOf change k)) ≡ false → bestOf change (k + 1) ≡ bestOf change k
   unfolding bestOf
   bestOf-kept h = rw add-one (ap (λ (b : Bool). better b k (bestOf change k)) h)
+
+-- ---- the code's answer: the best level's number, or n where there is none
+abbrev pub numberOf : ℕ → Found → ℕ
+numberOf n nowhere = n
+numberOf n (at i) = i
+
+module _ (s : ShapeSums) (levels : List Float) (n : ℕ) where
+  pub number-within : (f : Found) → BestAt (changeOf s levels) n f → numberOf n f ≤ n
+  number-within nowhere b = omega arith
+  number-within (at i) b = omega (arith, b .below)
+
+  pub swept-none : (f : Found) → BestAt (changeOf s levels) n f → numberOf n f ≡ n → sweptAt s levels f ≡ noScore (level levels 0) (s .count)
+  swept-none nowhere b e = refl
+  swept-none (at i) b e = absurd (omega (arith, b .below, e))
+
+  pub swept-some : (f : Found) → (numberOf n f ≡ n → ⊥) → sweptAt s levels f ≡ finalized s (level levels (numberOf n f))
+  swept-some nowhere h = absurd (h refl)
+  swept-some (at i) h = refl

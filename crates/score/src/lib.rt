@@ -1,13 +1,17 @@
 // Scores: what drawing a shape over the canvas changes, worked out from sums over its pixels.
 ghost use mathlib.Core.Path.{_≡_};
-ghost use Prim.Native.Nat.{_≤_};
+ghost use Prim.Native.Nat.{_<_, _≤_};
 ghost use lib.ListN.{length};
 ghost use Rattle.score.specs.Finalize.{
   errorBefore,
   colourOf,
   errorAfter,
+  rest,
   overChannels,
+  countOf,
+  colourAt,
   beforeAt,
+  afterAt,
   noScore,
   finalized,
   FinalizeSays,
@@ -103,6 +107,43 @@ fn all_before(s: ShapeSums) -> f64
     0.0 + first + second + third
 }
 
+// 1 - a, in f32, then widened.
+fn rest_of(a: f32) -> f64
+    ensures { λ r. ⌜ r ≡ rest a ⌝ }
+{
+    float::widen(1.0 - a)
+}
+
+// A channel's colour at the opacity a.
+fn colour_at(s: ShapeSums, channel: usize, a: f64, m: f64, n: f64) -> f32
+    requires channel { ⌜ channel < 3 ⌝ }
+    requires rest { ⌜ m ≡ rest a ⌝ }
+    requires pixels { ⌜ n ≡ countOf s ⌝ }
+    ensures { λ r. ⌜ r ≡ colourAt s a channel ⌝ }
+{
+    let t = s.s_t;
+    let c = s.s_c;
+    colour(t[channel], c[channel], m, a * n)
+}
+
+// The errors with the colours drawn over them, over the channels.
+fn all_after(s: ShapeSums, a: f64, m: f64, n: f64, red: f32, green: f32, blue: f32) -> f64
+    requires rest { ⌜ m ≡ rest a ⌝ }
+    requires pixels { ⌜ n ≡ countOf s ⌝ }
+    requires colours { ⌜ (red ≡ colourAt s a 0) × (green ≡ colourAt s a 1) × (blue ≡ colourAt s a 2) ⌝ }
+    ensures { λ r. ⌜ r ≡ overChannels (afterAt s a) ⌝ }
+{
+    let t = s.s_t;
+    let c = s.s_c;
+    let tt = s.s_t2;
+    let cc = s.s_c2;
+    let tc = s.s_tc;
+    let first = weigh(t[0], c[0], tt[0], cc[0], tc[0], a, m, red, n);
+    let second = weigh(t[1], c[1], tt[1], cc[1], tc[1], a, m, green, n);
+    let third = weigh(t[2], c[2], tt[2], cc[2], tc[2], a, m, blue, n);
+    0.0 + first + second + third
+}
+
 // The change and the colour at an opacity, from the sums alone: one geometry is scored at many opacities.
 pub fn finalize(s: ShapeSums, opacity: f32) -> Score
     ensures { λ r. ⌜ FinalizeSays s opacity r ⌝ }
@@ -118,21 +159,13 @@ fn finalize_from(s: ShapeSums, opacity: f32, before: f64) -> Score
     if count == 0 {
         return no_score(opacity, 0);
     }
-    let m = float::widen(1.0 - opacity);
+    let m = rest_of(opacity);
     let a = float::widen(opacity);
     let n = count as f64;
-    let t = s.s_t;
-    let c = s.s_c;
-    let tt = s.s_t2;
-    let cc = s.s_c2;
-    let tc = s.s_tc;
-    let red = colour(t[0], c[0], m, a * n);
-    let green = colour(t[1], c[1], m, a * n);
-    let blue = colour(t[2], c[2], m, a * n);
-    let first = weigh(t[0], c[0], tt[0], cc[0], tc[0], a, m, red, n);
-    let second = weigh(t[1], c[1], tt[1], cc[1], tc[1], a, m, green, n);
-    let third = weigh(t[2], c[2], tt[2], cc[2], tc[2], a, m, blue, n);
-    let after = 0.0 + first + second + third;
+    let red = colour_at(s, 0, a, m, n);
+    let green = colour_at(s, 1, a, m, n);
+    let blue = colour_at(s, 2, a, m, n);
+    let after = all_after(s, a, m, n, red, green, blue);
     Score {
         opacity: opacity,
         count: count,
@@ -143,24 +176,45 @@ fn finalize_from(s: ShapeSums, opacity: f32, before: f64) -> Score
     }
 }
 
+// The change alone, for the sweep: a number comes back in a register, a score through memory.
+fn change_from(s: ShapeSums, opacity: f32, before: f64) -> f32
+    requires { ⌜ before ≡ overChannels (beforeAt s) ⌝ }
+    ensures { λ r. ⌜ r ≡ finalized s opacity .change ⌝ }
+{
+    let count = s.count;
+    if count == 0 {
+        return 0.0;
+    }
+    let m = rest_of(opacity);
+    let a = float::widen(opacity);
+    let n = count as f64;
+    let red = colour_at(s, 0, a, m, n);
+    let green = colour_at(s, 1, a, m, n);
+    let blue = colour_at(s, 2, a, m, n);
+    let after = all_after(s, a, m, n, red, green, blue);
+    float::narrow(after - before)
+}
+
 // The first of the first n levels with the strictly smallest change. The lowest change so far starts at infinity, so
-// that a NaN is never taken.
+// that a NaN is never taken. The score is worked out for the best level alone; n is no level.
 fn sweep(s: ShapeSums, levels: &[f32], n: usize) -> Score
     requires { ⌜ (1 ≤ n) × (n ≤ length (now levels)) ⌝ }
     ensures { λ r. ⌜ r ≡ swept s (now (levels .entry)) n ⌝ }
 {
-    let count = s.count;
-    let mut best = no_score(levels[0], count);
-    let mut lowest = 1.0 / 0.0;
     let before = all_before(s);
+    let mut best = n;
+    let mut lowest = 1.0 / 0.0;
     let mut i = 0;
     while i < n {
-        let score = finalize_from(s, levels[i], before);
-        if score.change < lowest {
-            lowest = score.change;
-            best = score;
+        let change = change_from(s, levels[i], before);
+        if change < lowest {
+            lowest = change;
+            best = i;
         }
         i += 1;
     }
-    best
+    if best == n {
+        return no_score(levels[0], s.count);
+    }
+    finalize_from(s, levels[best], before)
 }

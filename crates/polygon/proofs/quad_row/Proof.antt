@@ -1,20 +1,24 @@
--- `polygon::quad_row` meets its contract: the columns that are left after four edges.
+-- `polygon::quad_row` meets its contract: the columns that are left after four edges, or after three where the third is none.
 use borrow.Author.Needs.{needs}
-use mathlib.Core.Path.{sym}
+use mathlib.Core.Path.{_≡_, sym, ap₂, subst}
+use mathlib.Core.Bool.{true, _&&_}
 use mathlib.Core.List.{List}
-use Prim.Native.Nat.{ℕ}
+use Prim.Native.Nat.{ℕ, _≤_}
 use lib.IntN.{ℤ, pos}
 use lib.ListN.{getD}
 use mir.Syntax.{w32}
-use mir.Val.{toZ, ofZ}
+use mir.Val.{SFits, toZ, ofZ}
 use mir.Facts.{toZ-ofZ}
 use Rattle.laws.specs.Bound.{Bounded}
 use Rattle.laws.specs.Bounds.{arg, ld, ldw, weq}
-use Rattle.polygon.specs.Polygon.{at, area2, corners}
-use Rattle.polygon.specs.Steps.{Placed}
+use Rattle.laws.specs.Bools.{true-is, and-left, and-right}
+use Rattle.laws.specs.Fit.{ofZ-inj}
+use lib.Dec.{eqb, eqb→eq}
+use Rattle.polygon.specs.Polygon.{Point, at, area2, corners}
+use Rattle.polygon.specs.Steps.{Placed, Kept, Inner, Closed, RowRun}
 use Rattle.polygon.specs.StepLaws.{sign-bounded, corner-placed}
 use Rattle.polygon.specs.OneRow.{four}
-use Rattle.polygon.specs.OneRowLaws.{four-edges}
+use Rattle.polygon.specs.OneRowLaws.{four-edges, no-edge}
 use Rattle.polygon.proofs.quad_row.Statement.{statement}
 use Rattle.polygon.proofs.quad_row.Tie as tie
 
@@ -38,28 +42,58 @@ cut-row-requires-2 : tie.Need-cut-row-requires-2
 cut-row-requires-2 c κs = let s = c .before in (placed s 1, (placed s 2, (turned s, s .pre .1 .1)))
 
 cut-row-requires-3 : tie.Need-cut-row-requires-3
-cut-row-requires-3 c κs = let s = c .before .before in (placed s 2, (placed s 3, (turned s, s .pre .1 .1)))
+cut-row-requires-3 c κs = let s = c .before .before in (placed s 3, (placed s 0, (turned s, s .pre .1 .1)))
 
-cut-row-requires-4 : tie.Need-cut-row-requires-4
-cut-row-requires-4 c κs = let s = c .before .before .before in (placed s 3, (placed s 0, (turned s, s .pre .1 .1)))
+-- after three edges, the one that may be none
+module _ (e : tie.After-cut-row3) where
+  abbrev start : tie.Start
+  start = e .before .before .before
+
+  row : (i j left right : ℕ) → Kept (Inner (start .args .sign) (at (start .args .x2) (start .args .y2)) (at (start .args .x3) (start .args .y3)) (pos (start .args .y))) (e .cut-row3 .result .left) (e .cut-row3 .result .right) i j
+      → Closed i j left right → RowRun (xs start) (ys start) (start .args .w) (start .args .y) left right × (left ≤ start .args .w) × (right ≤ start .args .w)
+  row i j left right k t =
+      let b = e .before in
+      let a = b .before in
+      let s = start in
+      let g = s .args in
+      four-edges (g .x0) (g .y0) (g .x1) (g .y1) (g .x2) (g .y2) (g .x3) (g .y3) (g .sign) (s .pre .1 .0) (g .w) (g .y) _ _ _ _ _ _ i j left right
+      (simp (toZ-ofZ, s .fits .x0, s .fits .y0, s .fits .x1, s .fits .y1, s .fits .sign) at (a .cut-row .ensures))
+      (simp (toZ-ofZ, s .fits .x1, s .fits .y1, s .fits .x2, s .fits .y2, s .fits .sign) at (b .cut-row2 .ensures))
+      (simp (toZ-ofZ, s .fits .x3, s .fits .y3, s .fits .x0, s .fits .y0, s .fits .sign) at (e .cut-row3 .ensures))
+      k t
+
+one-corner : {a b e d : ℤ} → SFits w32 a → SFits w32 b → SFits w32 e → SFits w32 d → eqb (ofZ w32 a) (ofZ w32 b) && eqb (ofZ w32 e) (ofZ w32 d) ≡ true → at a e ≡ at b d
+one-corner {a} {b} {e} {d} f g h k once =
+    let x = eqb (ofZ w32 a) (ofZ w32 b) in
+    let y = eqb (ofZ w32 e) (ofZ w32 d) in
+    ap₂ at (ofZ-inj f g (eqb→eq _ _ (true-is x (and-left x y once)))) (ofZ-inj h k (eqb→eq _ _ (true-is y (and-right x y once))))
 
 closed-requires : tie.Need-closed-requires
 closed-requires c κs = search needs
 
 returns : tie.Need-returns
 returns c =
-    let d = c .before in
-    let e = d .before in
-    let b = e .before in
-    let a = b .before in
-    let s = a .before in
+    let e = c .before .before in
+    let s = start e in
     let g = s .args in
-    four-edges (g .x0) (g .y0) (g .x1) (g .y1) (g .x2) (g .y2) (g .x3) (g .y3) (g .sign) (s .pre .1 .0) (g .w) (g .y) _ _ _ _ _ _ _ _ _ _
-    (simp (toZ-ofZ, s .fits .x0, s .fits .y0, s .fits .x1, s .fits .y1, s .fits .sign) at (a .cut-row .ensures))
-    (simp (toZ-ofZ, s .fits .x1, s .fits .y1, s .fits .x2, s .fits .y2, s .fits .sign) at (b .cut-row2 .ensures))
-    (simp (toZ-ofZ, s .fits .x2, s .fits .y2, s .fits .x3, s .fits .y3, s .fits .sign) at (e .cut-row3 .ensures))
-    (simp (toZ-ofZ, s .fits .x3, s .fits .y3, s .fits .x0, s .fits .y0, s .fits .sign) at (d .cut-row4 .ensures))
+    let r = e .cut-row3 .result in
+    let last = one-corner (s .fits .x2) (s .fits .x3) (s .fits .y2) (s .fits .y3) (c .before .if1 .taken) in
+    row e _ _ _ _
+    (subst (λ (z : Point). Kept (Inner (g .sign) (at (g .x2) (g .y2)) z (pos (g .y))) (r .left) (r .right) (r .left) (r .right)) last (no-edge (g .sign) (at (g .x2) (g .y2)) (pos (g .y)) (r .left) (r .right)))
     (c .closed .ensures)
+
+cut-row-requires-4 : tie.Need-cut-row-requires-4
+cut-row-requires-4 c κs = let s = c .before .before .before .before in (placed s 2, (placed s 3, (turned s, s .pre .1 .1)))
+
+closed-requires-2 : tie.Need-closed-requires-2
+closed-requires-2 c κs = search needs
+
+returns-2 : tie.Need-returns-2
+returns-2 c =
+    let d = c .before in
+    let e = d .before .before in
+    let s = start e in
+    row e _ _ _ _ (simp (toZ-ofZ, s .fits .x2, s .fits .y2, s .fits .x3, s .fits .y3, s .fits .sign) at (d .cut-row4 .ensures)) (c .closed2 .ensures)
 
 pub quad-row-spec : {M : Type 1} → statement M
 quad-row-spec =
@@ -68,6 +102,8 @@ quad-row-spec =
     cut-row-requires
     cut-row-requires-2
     cut-row-requires-3
-    cut-row-requires-4
     closed-requires
-    returns)
+    returns
+    cut-row-requires-4
+    closed-requires-2
+    returns-2)
