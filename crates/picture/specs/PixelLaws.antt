@@ -9,7 +9,7 @@ use native.Mathlib.Omega.{arith}
 use lib.Dec.{T, eqb}
 use lib.ListN.{length, getD, take, set, length-set}
 use lib.IntN.{pos}
-use lib.Seq.{take-all, getD-take, length-take-le}
+use lib.Seq.{take-all, take-take, getD-take, length-take-le}
 use lib.Ieee.{Float, nan, inf, fin, Format, binary64, add, sub, neg, ofInt}
 use lib.Ieee.Fits.{and-l, and-r}
 use Rattle.laws.specs.Answer.{Answer}
@@ -26,7 +26,7 @@ use Rattle.laws.specs.PictureLaws.{length-list, list-number, list-every}
 use Rattle.float.specs.Within.{nought, number, within, allWithin}
 use Rattle.float.specs.Narrowed.{narrowed}
 use Rattle.float.specs.WithinLaws.{Says, says, within-number}
-use Rattle.float.specs.CappedLaws.{sum-number}
+use Rattle.float.specs.MarksLaws.{sum-number}
 use Rattle.refusal.specs.Refusals.{Sized, badSize, lowest, sizeIf, lengthIf, pixelIf}
 use Rattle.refusal.specs.Lengths.{badPicture}
 use Rattle.refusal.specs.LengthLaws.{picture-length}
@@ -254,20 +254,6 @@ pixels-last w h target canvas e =
     go true false p q = at-third size lengths true 7 (omega arith) p q refl
     go false b p q = at-third size lengths true 7 (omega arith) p q refl
 
-crossed : (a b p q : Bool) → a && b && (p && q) ≡ (a && p) && (b && q)
-crossed true true p q = refl
-crossed true false true q = refl
-crossed true false false q = refl
-crossed false b p q = refl
-
-pub both-step : (t c : List Float) (k : ℕ) (ok p q : Bool) → k < length t → k < length c → ok ≡ allWithin (take k t) && allWithin (take k c)
-    → p ≡ within (getD t k nan) → q ≡ within (getD c k nan) → ok && (p && q) ≡ allWithin (take (k + 1) t) && allWithin (take (k + 1) c)
-both-step t c k ok p q h l e f g =
-    ap (λ (z : Bool). z && (p && q)) e
-    ∙ crossed (allWithin (take k t)) (allWithin (take k c)) p q
-    ∙ ap (λ (z : Bool). z && (allWithin (take k c) && q)) (every-step within t k nan (allWithin (take k t)) p h refl f)
-    ∙ ap (λ (z : Bool). allWithin (take (k + 1) t) && z) (every-step within c k nan (allWithin (take k c)) q l refl g)
-
 -- a part that is not within 0..1, and an element of one that is
 pub part-bad : (t c : List Float) (k : ℕ) → allWithin (take k t) && allWithin (take k c) ≡ false → allWithin t && allWithin c ≡ false
 part-bad t c k h =
@@ -290,3 +276,7 @@ part-all t c k h l p q =
 pub within-before : (xs : List Float) (n k : ℕ) → T (allWithin (take n xs)) → k < n → n ≤ length xs → T (within (getD xs k nan))
 within-before xs n k h l m =
     subst (λ (x : Float). T (within x)) (getD-take n xs k nan l) (within-at (take n xs) k h (lt-of-lt-of-le l (le-of-eq (sym (length-take-le n xs m)))))
+
+-- the first i of numbers that are within 0..1 are
+pub within-first : (xs : List Float) (i n : ℕ) → i ≤ n → T (allWithin (take n xs)) → T (allWithin (take i xs))
+within-first xs i n h p = subst (λ (l : List Float). T (allWithin l)) (take-take i n xs h) (every-take within i (take n xs) p)

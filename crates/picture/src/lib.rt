@@ -235,39 +235,54 @@ fn part_end(i: usize, n: usize) -> usize
     i + 32
 }
 
-// All before `from` were within 0..1. The largest pattern of a number, capped, shows whether all are; a -0.0, or a number that is not
-// within, makes it look again. The loop has no way out, so that it is vectorised.
+// All before `from` were within 0..1. The marks together show whether all are; a -0.0, or a number that is not within, makes it look
+// again. The loop has no way out, so that it is vectorised.
 fn both_within(target: &[f32], canvas: &[f32], from: usize, to: usize) -> bool
     requires { ⌜ (from ≤ to) × (to ≤ length (now target)) × (to ≤ length (now canvas)) ⌝ }
     requires { ⌜ T (allWithin (take from (now target))) × T (allWithin (take from (now canvas))) ⌝ }
     ensures { λ r. ⌜ r ≡ allWithin (take to (now (target .entry))) && allWithin (take to (now (canvas .entry))) ⌝ }
 {
-    let mut top = 0u32;
+    let mut seen = 0u32;
     for k in from..to {
-        top = float::larger_pattern(top, float::capped(target[k]));
-        top = float::larger_pattern(top, float::capped(canvas[k]));
+        seen = seen | (float::marks(target[k]) | float::marks(canvas[k]));
     }
-    if top <= 0x3f80_0000 {
+    if seen < 0x8000_0000 {
         return true;
     }
-    each_within(target, canvas, from, to)
+    each_within(target, from, to) & each_within(canvas, from, to)
 }
 
-// The same, one by one.
-fn each_within(target: &[f32], canvas: &[f32], from: usize, to: usize) -> bool
-    requires { ⌜ (from ≤ to) × (to ≤ length (now target)) × (to ≤ length (now canvas)) ⌝ }
-    requires { ⌜ T (allWithin (take from (now target))) × T (allWithin (take from (now canvas))) ⌝ }
-    ensures { λ r. ⌜ r ≡ allWithin (take to (now (target .entry))) && allWithin (take to (now (canvas .entry))) ⌝ }
+// One by one.
+fn each_within(picture: &[f32], from: usize, to: usize) -> bool
+    requires { ⌜ (from ≤ to) × (to ≤ length (now picture)) × T (allWithin (take from (now picture))) ⌝ }
+    ensures { λ r. ⌜ r ≡ allWithin (take to (now (picture .entry))) ⌝ }
 {
     let mut ok = true;
     for k in from..to {
-        ok = ok & (float::within(target[k]) & float::within(canvas[k]));
+        ok = ok & float::within(picture[k]);
     }
     ok
 }
 
-// The sum goes on from that of the numbers before `from`.
+// The sum goes on from that of the numbers before `from`. By eights, whose number the compiler knows: it works out two differences
+// and two squares at once.
 fn add_squares(target: &[f32], canvas: &[f32], from: usize, to: usize, before: f64) -> f64
+    requires { ⌜ (from ≤ to) × (to ≤ length (now target)) × (to ≤ length (now canvas)) ⌝ }
+    requires { ⌜ T (allWithin (take to (now target))) × T (allWithin (take to (now canvas))) ⌝ }
+    requires { ⌜ before ≡ totalTo (now target) (now canvas) from ⌝ }
+    ensures { λ r. ⌜ r ≡ totalTo (now (target .entry)) (now (canvas .entry)) to ⌝ }
+{
+    let mut sum = before;
+    let mut k = from;
+    while 8 <= to - k {
+        sum = add_each(target, canvas, k, k + 8, sum);
+        k += 8;
+    }
+    add_each(target, canvas, k, to, sum)
+}
+
+// One by one.
+fn add_each(target: &[f32], canvas: &[f32], from: usize, to: usize, before: f64) -> f64
     requires { ⌜ (from ≤ to) × (to ≤ length (now target)) × (to ≤ length (now canvas)) ⌝ }
     requires { ⌜ T (allWithin (take to (now target))) × T (allWithin (take to (now canvas))) ⌝ }
     requires { ⌜ before ≡ totalTo (now target) (now canvas) from ⌝ }
