@@ -1,5 +1,5 @@
 -- While the top bit is clear, the elements passed are within 0..1.
-use mathlib.Core.Path.{_≡_, sym}
+use mathlib.Core.Path.{sym}
 use Prim.Native.Nat.{_≤_, _<_, _-_}
 use lib.Dec.{T}
 use lib.ListN.{length, take}

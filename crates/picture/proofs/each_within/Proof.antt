@@ -1,5 +1,5 @@
 -- The loop carries the test of the numbers passed.
-use mathlib.Core.Path.{_≡_, refl, sym}
+use mathlib.Core.Path.{_≡_, sym}
 use Prim.Native.Nat.{_≤_, _-_}
 use lib.ListN.{take}
 use lib.Ieee.{nan}
