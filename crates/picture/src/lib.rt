@@ -161,7 +161,9 @@ pub fn mean_rgb(w: usize, h: usize, target: &[f32]) -> Mean
     }
 }
 
-// The pixels, 16 at a time: the next ones' tests are done while the additions, which may not be reordered, wait for each other.
+// The pixels, 16 at a time: the next ones' tests are done while the additions, which may not be reordered, wait for each other. The
+// compiler knows how many a part has, so that it adds red and green as a pair; of any number it would gather a channel's numbers from
+// four pixels, which costs more than it saves.
 fn mean_tested(w: usize, h: usize, target: &[f32]) -> Mean
     requires { ⌜ Sized w h × (length (now target) ≡ h * w * 3) ⌝ }
     ensures { λ r. ⌜ meanAnswer r ≡ answer (cond (allWithin (now (target .entry))) 0 7) (meanOf w h (now (target .entry))) noColour ⌝ }
@@ -173,14 +175,17 @@ fn mean_tested(w: usize, h: usize, target: &[f32]) -> Mean
         blue: 0.0,
     };
     let mut i = 0;
-    while i < n {
-        let e = part_end(i, n);
-        if !part_within(target, i * 3, e * 3) {
+    while 16 <= n - i {
+        if !part_within(target, i * 3, (i + 16) * 3) {
             return Mean::Refused(refusal::PIXEL);
         }
-        sums = add_pixels(sums, target, i, e);
-        i = e;
+        sums = add_pixels(sums, target, i, i + 16);
+        i += 16;
     }
+    if !part_within(target, i * 3, n * 3) {
+        return Mean::Refused(refusal::PIXEL);
+    }
+    sums = add_pixels(sums, target, i, n);
     Mean::Done(Colour {
         red: share(sums.red, n),
         green: share(sums.green, n),
@@ -188,24 +193,8 @@ fn mean_tested(w: usize, h: usize, target: &[f32]) -> Mean
     })
 }
 
-// The sums go on from those of the pixels before `from`. By fours, whose number the compiler knows: it adds red and green as a pair.
-// In a loop over single pixels it would gather a channel's numbers from four pixels, which costs more than it saves.
+// The sums go on from those of the pixels before `from`.
 fn add_pixels(before: Sums, target: &[f32], from: usize, to: usize) -> Sums
-    requires { ⌜ (from ≤ to) × (to * 3 ≤ length (now target)) × T (allWithin (take (to * 3) (now target))) ⌝ }
-    requires { ⌜ before ≡ sumsTo (now target) from ⌝ }
-    ensures { λ r. ⌜ r ≡ sumsTo (now (target .entry)) to ⌝ }
-{
-    let mut sums = before;
-    let mut i = from;
-    while 4 <= to - i {
-        sums = add_few(sums, target, i, i + 4);
-        i += 4;
-    }
-    add_few(sums, target, i, to)
-}
-
-// One by one.
-fn add_few(before: Sums, target: &[f32], from: usize, to: usize) -> Sums
     requires { ⌜ (from ≤ to) × (to * 3 ≤ length (now target)) × T (allWithin (take (to * 3) (now target))) ⌝ }
     requires { ⌜ before ≡ sumsTo (now target) from ⌝ }
     ensures { λ r. ⌜ r ≡ sumsTo (now (target .entry)) to ⌝ }
