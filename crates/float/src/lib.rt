@@ -124,12 +124,12 @@ fn each_within(xs: &[f32]) -> bool
     ok
 }
 
-// x's pattern, or all ones where x is not at most 1: the top bit is clear only where x is within 0..1.
-pub fn marks(x: f32) -> u32
-    ensures { λ r. ⌜ MarksSays x r ⌝ }
+// v's pattern, or all ones where v is not at most 1: the top bit is clear only where v is within 0..1.
+pub fn marks(v: f32) -> u32
+    ensures { λ r. ⌜ MarksSays v r ⌝ }
 {
-    if x <= 1.0 {
-        f32::to_bits(x)
+    if v <= 1.0 {
+        f32::to_bits(v)
     } else {
         0xffff_ffff
     }

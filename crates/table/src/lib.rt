@@ -153,7 +153,8 @@ fn first_row(ymin: i32, hi: usize) -> usize
     if first < hi { first } else { hi }
 }
 
-// Rows lo to hi, without hi: all sums, or those that read the canvas.
+// Rows lo to hi, without hi: all sums, or those that read the canvas. Each row is tested just before: its pictures are read once from
+// afar.
 fn rebuild_rows(
     target: &[f32],
     canvas: &[f32],
@@ -167,8 +168,8 @@ fn rebuild_rows(
     requires { ⌜ Sizes w h (now target) (now canvas) (now table) × (lo ≤ hi) × (hi ≤ h) ⌝ }
     ensures { λ _. ⌜ now (table .exit) ≡ putRows ((w + 1) * 15) (rowAt whole w (now (target .entry)) (now (canvas .entry))) lo hi (now (table .entry)) ⌝ }
 {
-    let numbers = all_numbers(target, canvas, lo * (w * 3), hi * (w * 3));
     for y in lo..hi {
+        let numbers = all_numbers(target, canvas, y * (w * 3), (y + 1) * (w * 3));
         rebuild_at(target, canvas, w, table, y, whole, numbers);
     }
 }

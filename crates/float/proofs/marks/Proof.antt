@@ -30,15 +30,15 @@ above x e = record {
 
 float-to-bits-result : tie.Need-float-to-bits-result
 unfolding ofBits
-float-to-bits-result c = le-numbers (c .before .args .x) one (true-is (le (c .before .args .x) one) (c .if1 .taken)) .0
+float-to-bits-result c = le-numbers (c .before .args .v) one (true-is (le (c .before .args .v) one) (c .if1 .taken)) .0
 
 returns : tie.Need-returns
 unfolding ofBits
-returns c = let s = c .before in below (s .args .x) (true-is (fits binary32 (s .args .x)) (s .good .0 .1)) (c .if1 .taken)
+returns c = let s = c .before in below (s .args .v) (true-is (fits binary32 (s .args .v)) (s .good .0 .1)) (c .if1 .taken)
 
 returns-2 : tie.Need-returns-2
 unfolding ofBits
-returns-2 c = above (c .before .args .x) (c .if1 .left)
+returns-2 c = above (c .before .args .v) (c .if1 .left)
 
 pub marks-spec : {M : Type 1} → statement M
 marks-spec = tie.close (tie.spec float-to-bits-result returns returns-2)
