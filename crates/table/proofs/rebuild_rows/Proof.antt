@@ -1,12 +1,10 @@
 -- `rebuild_rows`: the rows from lo to y are written.
 use mathlib.Core.Path.{_≡_, sym, ap, _∙_}
-use Prim.Native.Nat.{ℕ, _+_, _-_, _*_, _≤_, _<_}
-use native.Mathlib.Nat.{le-trans, le-of-eq, mul-le-mul, mul-le-mul-right}
+use Prim.Native.Nat.{_+_, _-_, _*_, _≤_}
 use lib.ListN.{length}
-use Rattle.laws.specs.Rows.{cut, putRow, putRows}
-use Rattle.laws.specs.RowLaws.{putRows-none, putRows-more, row-in}
+use Rattle.laws.specs.Rows.{putRows}
+use Rattle.laws.specs.RowLaws.{putRows-none, putRows-split}
 use Rattle.table.specs.Fills.{rowAt}
-use Rattle.table.specs.LentLaws.{row-numbers}
 use borrow.Author.Needs.{needs}
 use native.Mathlib.Omega.{arith}
 use Rattle.table.proofs.rebuild_rows.Statement.{statement}
@@ -19,68 +17,34 @@ Inv-loop target canvas w h table₀ lo hi whole y₀ table y =
 abbrev μ-loop : tie.MeasureT-loop
 μ-loop target canvas w h table₀ lo hi whole y₀ table y = hi - y
 
--- numbers before a row of the pictures
-few : (y w : ℕ) → y ≤ 256 → w ≤ 256 → y * (w * 3) ≤ 196608
-few y w p q = let r : w * 3 ≤ 768 = omega arith in mul-le-mul p r
-
 loop-holds : tie.Need-loop-holds Inv-loop μ-loop
 loop-holds c = (omega arith, omega arith, sym (putRows-none _ _ _ _), c .before .before .before .pre .0 .places)
 
-mul-all-numbers : tie.Need-mul-all-numbers Inv-loop μ-loop
-mul-all-numbers c = search needs
+some-end-requires : tie.Need-some-end-requires Inv-loop μ-loop
+some-end-requires c κs = (omega arith, c .before .before .before .before .before .pre .0 .narrow)
 
-mul-all-numbers-2 : tie.Need-mul-all-numbers-2 Inv-loop μ-loop
-mul-all-numbers-2 c =
-    let s = c .before .before .before .before .before in
-    omega (arith, few (c .before .loop .y) (s .args .w) (omega (arith, s .pre .0 .low)) (s .pre .0 .narrow))
-
-add-all-numbers : tie.Need-add-all-numbers Inv-loop μ-loop
-add-all-numbers c = search needs
-
-mul-all-numbers-3 : tie.Need-mul-all-numbers-3 Inv-loop μ-loop
-mul-all-numbers-3 c = search needs
-
-mul-all-numbers-4 : tie.Need-mul-all-numbers-4 Inv-loop μ-loop
-mul-all-numbers-4 c =
-    let s = c .before .before .before .before .before in
-    omega (arith, few (c .before .loop .y + 1) (s .args .w) (omega (arith, s .pre .0 .low)) (s .pre .0 .narrow))
-
-all-numbers-requires : tie.Need-all-numbers-requires Inv-loop μ-loop
-all-numbers-requires c κs =
-    let s = c .before .before .before .before .before in
-    let n = s .args .w * 3 in
-    let y = c .before .loop .y in
-    let more : y ≤ y + 1 = omega arith in
-    let last : y + 1 ≤ s .args .h = omega arith in
-    (mul-le-mul-right n more, le-trans (mul-le-mul-right n last) (le-of-eq (sym (s .pre .0 .targets))), le-trans (mul-le-mul-right n last) (le-of-eq (sym (s .pre .0 .canvases))))
-
-rebuild-at-requires : tie.Need-rebuild-at-requires Inv-loop μ-loop
-rebuild-at-requires c κs =
-    let st = c .before .before .before .before .before .before .before in
-    let a = st .args in
-    let l = c .before .before .before .loop in
-    let g : l .y < a .h = omega arith in (
-      (st .pre .0 .narrow, row-in (a .w * 3) (l .y) (a .h) (a .target .now) (st .pre .0 .targets) g, row-in (a .w * 3) (l .y) (a .h) (a .canvas .now) (st .pre .0 .canvases) g, row-in ((a .w + 1) * 15) (l .y) (a .h) (l .table) (l .inv .3) g),
-      λ e. row-numbers (a .w * 3) (l .y) (l .y) (l .y + 1) (a .h) (a .target .now) (a .canvas .now) (omega arith) (omega arith) (omega arith) (st .pre .0 .targets) (st .pre .0 .canvases) (c .before .all-numbers .ensures e),
-    )
-
-add-y : tie.Need-add-y Inv-loop μ-loop
-add-y c = search needs
+rebuild-some-requires : tie.Need-rebuild-some-requires Inv-loop μ-loop
+rebuild-some-requires c κs =
+    let p = c .before .before .before .before .before .before .before .pre in
+    let e = c .before .some-end .ensures in
+    (record { narrow = p .0 .narrow; low = p .0 .low; targets = p .0 .targets; canvases = p .0 .canvases; places = c .before .before .before .loop .inv .3 }, omega (arith, e .0), omega (arith, e .1, p .2))
 
 loop-less : tie.Need-loop-less Inv-loop μ-loop
-loop-less c = search needs
+loop-less c = let e = c .before .before .before .before .some-end .ensures in omega (arith, e .0, e .1)
 
 loop-again : tie.Need-loop-again Inv-loop μ-loop
 loop-again c =
     let a = c .before .before .before .before .before .before .before .before .before .before .args in
     let l = c .before .before .before .before .before .before .loop in
-    let r = c .before .before .rebuild-at in (
-      omega arith,
-      omega arith,
+    let e = c .before .before .before .before .some-end in
+    let r = c .before .before .rebuild-some in
+    let f = rowAt (a .whole) (a .w) (a .target .now) (a .canvas .now) in (
+      omega (arith, e .ensures .0),
+      e .ensures .1,
       r .ensures
-          ∙ ap (λ m. putRow ((a .w + 1) * 15) (l .y) (rowAt (a .whole) (a .w) (a .target .now) (a .canvas .now) (l .y) (cut ((a .w + 1) * 15) (l .y) m)) m) (l .inv .2)
-          ∙ putRows-more ((a .w + 1) * 15) (rowAt (a .whole) (a .w) (a .target .now) (a .canvas .now)) (a .lo) (l .y) (a .table .now) (l .inv .0),
-      r .kept .1 .1 .1 .0 ∙ l .inv .3,
+          ∙ ap (putRows ((a .w + 1) * 15) f (l .y) (e .result)) (l .inv .2)
+          ∙ putRows-split ((a .w + 1) * 15) f (a .lo) (l .y) (e .result) (a .table .now) (l .inv .0) (omega (arith, e .ensures .0)),
+      r .kept .1 .1 .1 .1 .0 ∙ l .inv .3,
     )
 
 same-length : tie.Need-same-length Inv-loop μ-loop
@@ -98,14 +62,8 @@ rebuild-rows-spec =
     Inv-loop
     μ-loop
     loop-holds
-    mul-all-numbers
-    mul-all-numbers-2
-    add-all-numbers
-    mul-all-numbers-3
-    mul-all-numbers-4
-    all-numbers-requires
-    rebuild-at-requires
-    add-y
+    some-end-requires
+    rebuild-some-requires
     loop-less
     loop-again
     same-length
