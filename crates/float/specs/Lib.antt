@@ -2,7 +2,7 @@
 pub mod Narrowed
 pub mod Within
 pub mod Clamped
-pub mod Capped
+pub mod Marks
 pub mod Patterns
 pub mod Shortened
 -- What follows.
@@ -15,5 +15,5 @@ pub mod OrderLaws
 pub mod WithinLaws
 pub mod BlendLaws
 pub mod ClampLaws
-pub mod CappedLaws
+pub mod MarksLaws
 pub mod PatternLaws

@@ -6,7 +6,7 @@ ghost use Prim.Native.Nat.{_+_, _-_, _^_, _<_, _≤_};
 ghost use lib.Ieee.Nearest.{closest};
 ghost use Rattle.float.specs.Narrowed.{NarrowSays, NarrowBitsSays};
 ghost use Rattle.float.specs.Within.{number, WithinSays, AllWithinSays, AllNumbersSays};
-ghost use Rattle.float.specs.Capped.{CappedSays, LargerPatternSays};
+ghost use Rattle.float.specs.Marks.{MarksSays};
 ghost use Rattle.float.specs.Clamped.{Clamp01Says, Narrow01Says};
 ghost use Rattle.float.specs.Shortened.{shortened};
 ghost use Rattle.float.specs.Patterns.{Bits32Says, Bits64Says, OfBits32Says, OfBits64Says, WidenSays, WidenNumberSays};
@@ -94,19 +94,18 @@ pub fn within(x: f32) -> bool
     (0.0 <= x) & (x <= 1.0)
 }
 
-// Every element is within 0..1. The first loop has one test for an element and no way out, so that it is vectorised; only a -0.0, or
-// an element that is not within, makes it look again.
+// Every element is within 0..1. The first loop has no way out, so that it is vectorised; only a -0.0, or an element that is not
+// within, makes it look again.
 pub fn all_within(xs: &[f32]) -> bool
     ensures { λ r. ⌜ AllWithinSays (now (xs .entry)) r ⌝ }
 {
-    let mut ok = true;
+    let mut seen = 0u32;
     let mut i = 0;
     while i < xs.len() {
-        let pattern = larger_pattern(0, capped(xs[i]));
-        ok = ok & (pattern <= 0x3f80_0000);
+        seen = seen | marks(xs[i]);
         i += 1;
     }
-    if ok {
+    if seen < 0x8000_0000 {
         return true;
     }
     each_within(xs)
@@ -125,20 +124,15 @@ fn each_within(xs: &[f32]) -> bool
     ok
 }
 
-// At most 2, and never a NaN: what is not within 0..1 still shows.
-pub fn capped(x: f32) -> f32
-    ensures { λ r. ⌜ CappedSays x r ⌝ }
+// v's pattern, or all ones where v is not at most 1: the top bit is clear only where v is within 0..1.
+pub fn marks(v: f32) -> u32
+    ensures { λ r. ⌜ MarksSays v r ⌝ }
 {
-    if x <= 2.0 { x } else { 2.0 }
-}
-
-// The larger of `top` and x's pattern: up to that of 1.0, 3F800000, it shows that x is within 0..1.
-pub fn larger_pattern(top: u32, x: f32) -> u32
-    requires { ⌜ T (number x) ⌝ }
-    ensures { λ r. ⌜ LargerPatternSays top x r ⌝ }
-{
-    let b = f32::to_bits(x);
-    if top < b { b } else { top }
+    if v <= 1.0 {
+        f32::to_bits(v)
+    } else {
+        0xffff_ffff
+    }
 }
 
 // No element is a NaN. The loop has no way out, so that it is vectorised.

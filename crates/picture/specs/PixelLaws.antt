@@ -9,14 +9,14 @@ use native.Mathlib.Omega.{arith}
 use lib.Dec.{T, eqb}
 use lib.ListN.{length, getD, take, set, length-set}
 use lib.IntN.{pos}
-use lib.Seq.{take-all, getD-take, length-take-le}
+use lib.Seq.{take-all, take-take, getD-take, length-take-le}
 use lib.Ieee.{Float, nan, inf, fin, Format, binary64, add, sub, neg, ofInt}
 use lib.Ieee.Fits.{and-l, and-r}
 use Rattle.laws.specs.Answer.{Answer}
 use Rattle.laws.specs.Bools.{is-true, true-is, true-or-false, and-left, and-right, and-both, or-left, or-right}
 use Rattle.laws.specs.Before.{before}
 use Rattle.laws.specs.BeforeLaws.{before-none, before-more}
-use Rattle.laws.specs.EveryLaws.{every-each, every-step, every-take}
+use Rattle.laws.specs.EveryLaws.{every-each, every-take}
 use Rattle.laws.specs.F64.{_⊕_, _⊘_}
 use Rattle.laws.specs.Fit.{no-both}
 use Rattle.laws.specs.Fill.{agree-more, agree-all}
@@ -26,7 +26,7 @@ use Rattle.laws.specs.PictureLaws.{length-list, list-number, list-every}
 use Rattle.float.specs.Within.{nought, number, within, allWithin}
 use Rattle.float.specs.Narrowed.{narrowed}
 use Rattle.float.specs.WithinLaws.{Says, says, within-number}
-use Rattle.float.specs.CappedLaws.{sum-number}
+use Rattle.float.specs.MarksLaws.{sum-number}
 use Rattle.refusal.specs.Refusals.{Sized, badSize, lowest, sizeIf, lengthIf, pixelIf}
 use Rattle.refusal.specs.Lengths.{badPicture}
 use Rattle.refusal.specs.LengthLaws.{picture-length}
@@ -206,9 +206,6 @@ difference-number f x y h k = go x y (says x h) (says y k)
 pub within-at : (xs : List Float) (k : ℕ) → T (allWithin xs) → k < length xs → T (within (getD xs k nan))
 within-at xs k h l = every-each within xs k nan h l
 
-pub number-at : (xs : List Float) (k : ℕ) → T (allWithin xs) → k < length xs → T (number (getD xs k nan))
-number-at xs k h l = within-number (getD xs k nan) (within-at xs k h l)
-
 -- ---- what 0 gives: every test was passed
 pub fill-passed : (w h : ℕ) (red green blue : Float) (n : ℕ) → fillRefusal w h red green blue n ≡ 0 → Sized w h × (n ≡ h * w * 3) × (badColour red green blue ≡ false)
 unfolding fillRefusal
@@ -216,11 +213,19 @@ fill-passed w h red green blue n e =
     let p = passed (badSize w h) (badPicture w h n) (badColour red green blue) 6 (omega arith) e in
     (sized w h (p .0), picture-length w h n (p .1), p .2)
 
-pub mean-passed : (w h : ℕ) (target : List Float) → meanRefusal w h target ≡ 0 → Sized w h × (length target ≡ h * w * 3) × T (allWithin target)
+pub sizes-passed : (w h n : ℕ) → lowest (sizeIf (badSize w h) ∷ lengthIf (badPicture w h n) ∷ []) ≡ 0 → Sized w h × (n ≡ h * w * 3)
+sizes-passed w h n e =
+    let p = two-passed (badSize w h) (badPicture w h n) e in
+    (sized w h (p .0), picture-length w h n (p .1))
+
+-- ---- the pixels, after the sizes and lengths
+third : (size lengths ok bad : Bool) → lowest (sizeIf size ∷ lengthIf lengths ∷ []) ≡ 0 → bad ≡ not ok → cond ok 0 7 ≡ lowest (sizeIf size ∷ lengthIf lengths ∷ pixelIf bad ∷ [])
+third size lengths true bad e d = let p = two-passed size lengths e in at-none size lengths bad 7 (omega arith) (p .0) (p .1) d
+third size lengths false bad e d = let p = two-passed size lengths e in at-third size lengths bad 7 (omega arith) (p .0) (p .1) d
+
+pub mean-last : (w h : ℕ) (target : List Float) → lowest (sizeIf (badSize w h) ∷ lengthIf (badPicture w h (length target)) ∷ []) ≡ 0 → cond (allWithin target) 0 7 ≡ meanRefusal w h target
 unfolding meanRefusal
-mean-passed w h target e =
-    let p = passed (badSize w h) (badPicture w h (length target)) (not (allWithin target)) 7 (omega arith) e in
-    (sized w h (p .0), picture-length w h (length target) (p .1), not-not (allWithin target) (p .2))
+mean-last w h target e = third (badSize w h) (badPicture w h (length target)) (allWithin target) (not (allWithin target)) e refl
 
 -- ---- total: the sizes and lengths, then the pixels part by part
 pub first-length : (size a b : Bool) → (lowest (sizeIf size ∷ lengthIf a ∷ []) ≡ 0 → ⊥) → lowest (sizeIf size ∷ lengthIf a ∷ []) ≡ lowest (sizeIf size ∷ lengthIf (a || b) ∷ [])
@@ -241,34 +246,22 @@ pub pixels-last : (w h : ℕ) (target canvas : List Float) → lowest (sizeIf (b
     → cond (allWithin target && allWithin canvas) 0 7 ≡ totalRefusal w h target canvas
 unfolding totalRefusal
 pixels-last w h target canvas e =
-    let p = two-passed size lengths e in go (allWithin target) (allWithin canvas) (p .0) (p .1)
+    third (badSize w h) (badPicture w h (length target) || badPicture w h (length canvas)) (allWithin target && allWithin canvas) (not (allWithin target) || not (allWithin canvas)) e (either (allWithin target) (allWithin canvas))
   where
-    size : Bool
-    size = badSize w h
+    either : (a b : Bool) → not a || not b ≡ not (a && b)
+    either true b = refl
+    either false b = refl
 
-    lengths : Bool
-    lengths = badPicture w h (length target) || badPicture w h (length canvas)
+-- the first numbers are not within 0..1, or all are
+pub first-bad : (t : List Float) (k : ℕ) → allWithin (take k t) ≡ false → allWithin t ≡ false
+first-bad t k h =
+    ⊎-elim (λ (y : allWithin t ≡ true). no-both (is-true (allWithin (take k t)) (every-take within k t (true-is (allWithin t) y))) h) (λ (n : allWithin t ≡ false). n)
+    (true-or-false (allWithin t))
 
-    go : (a b : Bool) → size ≡ false → lengths ≡ false → cond (a && b) 0 7 ≡ lowest (sizeIf size ∷ lengthIf lengths ∷ pixelIf (not a || not b) ∷ [])
-    go true true p q = at-none size lengths false 7 (omega arith) p q refl
-    go true false p q = at-third size lengths true 7 (omega arith) p q refl
-    go false b p q = at-third size lengths true 7 (omega arith) p q refl
+pub first-all : (t : List Float) (k : ℕ) → length t ≤ k → T (allWithin (take k t)) → allWithin t ≡ true
+first-all t k h p = ap allWithin (sym (take-all k t h)) ∙ is-true (allWithin (take k t)) p
 
-crossed : (a b p q : Bool) → a && b && (p && q) ≡ (a && p) && (b && q)
-crossed true true p q = refl
-crossed true false true q = refl
-crossed true false false q = refl
-crossed false b p q = refl
-
-pub both-step : (t c : List Float) (k : ℕ) (ok p q : Bool) → k < length t → k < length c → ok ≡ allWithin (take k t) && allWithin (take k c)
-    → p ≡ within (getD t k nan) → q ≡ within (getD c k nan) → ok && (p && q) ≡ allWithin (take (k + 1) t) && allWithin (take (k + 1) c)
-both-step t c k ok p q h l e f g =
-    ap (λ (z : Bool). z && (p && q)) e
-    ∙ crossed (allWithin (take k t)) (allWithin (take k c)) p q
-    ∙ ap (λ (z : Bool). z && (allWithin (take k c) && q)) (every-step within t k nan (allWithin (take k t)) p h refl f)
-    ∙ ap (λ (z : Bool). allWithin (take (k + 1) t) && z) (every-step within c k nan (allWithin (take k c)) q l refl g)
-
--- a part that is not within 0..1, and an element of one that is
+-- of two pictures
 pub part-bad : (t c : List Float) (k : ℕ) → allWithin (take k t) && allWithin (take k c) ≡ false → allWithin t && allWithin c ≡ false
 part-bad t c k h =
     ⊎-elim
@@ -282,11 +275,16 @@ part-bad t c k h =
     (true-or-false (allWithin t && allWithin c))
 
 pub part-all : (t c : List Float) (k : ℕ) → length t ≤ k → length c ≤ k → T (allWithin (take k t)) → T (allWithin (take k c)) → allWithin t && allWithin c ≡ true
-part-all t c k h l p q =
-    and-both (allWithin t) (allWithin c)
-    (ap allWithin (sym (take-all k t h)) ∙ is-true (allWithin (take k t)) p)
-    (ap allWithin (sym (take-all k c l)) ∙ is-true (allWithin (take k c)) q)
+part-all t c k h l p q = and-both (allWithin t) (allWithin c) (first-all t k h p) (first-all c k l q)
 
+-- an element of the first numbers
 pub within-before : (xs : List Float) (n k : ℕ) → T (allWithin (take n xs)) → k < n → n ≤ length xs → T (within (getD xs k nan))
 within-before xs n k h l m =
     subst (λ (x : Float). T (within x)) (getD-take n xs k nan l) (within-at (take n xs) k h (lt-of-lt-of-le l (le-of-eq (sym (length-take-le n xs m)))))
+
+pub number-before : (xs : List Float) (n k : ℕ) → T (allWithin (take n xs)) → k < n → n ≤ length xs → T (number (getD xs k nan))
+number-before xs n k h l m = within-number (getD xs k nan) (within-before xs n k h l m)
+
+-- the first i of numbers that are within 0..1 are
+pub within-first : (xs : List Float) (i n : ℕ) → i ≤ n → T (allWithin (take n xs)) → T (allWithin (take i xs))
+within-first xs i n h p = subst (λ (l : List Float). T (allWithin l)) (take-take i n xs h) (every-take within i (take n xs) p)

@@ -18,7 +18,7 @@ ghost use Rattle.refusal.specs.Lengths.{badPicture};
 ghost use Rattle.cover.specs.Cover.{badPlaces};
 ghost use Rattle.picture.specs.Painting.{BlendSays};
 ghost use Rattle.picture.specs.Strokes.{brushedPart, brushedRows, RowsWithin};
-ghost use Rattle.picture.specs.Pixels.{BadColourSays, FillSays, FilledCanvasSays, fillRefusal, MeanRgbSays, meanOf, meanRefusal, sumsTo, SseTotalSays, squaredDifference, totalAnswer, totalOf, totalTo, TotalAnySays, TotalWithinSays};
+ghost use Rattle.picture.specs.Pixels.{BadColourSays, FillSays, FilledCanvasSays, fillRefusal, MeanRgbSays, meanAnswer, meanOf, noColour, sumsTo, SseTotalSays, squaredDifference, totalAnswer, totalOf, totalTo, TotalAnySays, TotalWithinSays};
 use brush::Brush;
 use cover::Kind;
 use cover::reached::Rows;
@@ -107,38 +107,66 @@ pub fn fill(w: usize, h: usize, red: f32, green: f32, blue: f32, canvas: &mut [f
     }
 }
 
+// ---- the tests of a part
+
+fn part_end(i: usize, n: usize) -> usize
+    requires { ⌜ i < n ⌝ }
+    ensures { λ r. ⌜ (i < r) × (r ≤ n) ⌝ }
+{
+    if n - i < 16 {
+        return n;
+    }
+    i + 16
+}
+
+// All before `from` were within 0..1. The marks together show whether all are; a -0.0, or a number that is not within, makes it look
+// again. The loop has no way out, so that it is vectorised.
+fn part_within(picture: &[f32], from: usize, to: usize) -> bool
+    requires { ⌜ (from ≤ to) × (to ≤ length (now picture)) × T (allWithin (take from (now picture))) ⌝ }
+    ensures { λ r. ⌜ r ≡ allWithin (take to (now (picture .entry))) ⌝ }
+{
+    let mut seen = 0u32;
+    for k in from..to {
+        seen = seen | float::marks(picture[k]);
+    }
+    if seen < 0x8000_0000 {
+        return true;
+    }
+    each_within(picture, from, to)
+}
+
+// One by one.
+fn each_within(picture: &[f32], from: usize, to: usize) -> bool
+    requires { ⌜ (from ≤ to) × (to ≤ length (now picture)) × T (allWithin (take from (now picture))) ⌝ }
+    ensures { λ r. ⌜ r ≡ allWithin (take to (now (picture .entry))) ⌝ }
+{
+    let mut ok = true;
+    for k in from..to {
+        ok = ok & float::within(picture[k]);
+    }
+    ok
+}
+
 // ---- mean
 
 // The mean of each channel, summed in f64 in the pixels' order. Refusals: 1 size, 2 length, 7 pixel.
 pub fn mean_rgb(w: usize, h: usize, target: &[f32]) -> Mean
     ensures { λ r. ⌜ MeanRgbSays w h (now (target .entry)) r ⌝ }
 {
-    let number = mean_refusal(w, h, target);
+    let number = refused(w, h, target.len());
     if number == 0 {
-        Mean::Done(mean_of(w, h, target))
+        mean_tested(w, h, target)
     } else {
         Mean::Refused(number)
     }
 }
 
-fn mean_refusal(w: usize, h: usize, target: &[f32]) -> u8
-    ensures { λ r. ⌜ r ≡ meanRefusal w h (now (target .entry)) ⌝ }
-{
-    let number = refused(w, h, target.len());
-    if number != 0 {
-        return number;
-    }
-    if !float::all_within(target) {
-        return refusal::PIXEL;
-    }
-    0
-}
-
-// Two pixels a turn: in a loop with one the compiler would gather a channel's numbers from four pixels, which costs more than it saves.
-fn mean_of(w: usize, h: usize, target: &[f32]) -> Colour
+// The pixels, 16 at a time: the next ones' tests are done while the additions, which may not be reordered, wait for each other. The
+// compiler knows how many a part has, so that it adds red and green as a pair; of any number it would gather a channel's numbers from
+// four pixels, which costs more than it saves.
+fn mean_tested(w: usize, h: usize, target: &[f32]) -> Mean
     requires { ⌜ Sized w h × (length (now target) ≡ h * w * 3) ⌝ }
-    requires { ⌜ T (allWithin (now target)) ⌝ }
-    ensures { λ r. ⌜ r ≡ meanOf w h (now (target .entry)) ⌝ }
+    ensures { λ r. ⌜ meanAnswer r ≡ answer (cond (allWithin (now (target .entry))) 0 7) (meanOf w h (now (target .entry))) noColour ⌝ }
 {
     let n = h * w;
     let mut sums = Sums {
@@ -147,24 +175,40 @@ fn mean_of(w: usize, h: usize, target: &[f32]) -> Colour
         blue: 0.0,
     };
     let mut i = 0;
-    while i + 1 < n {
-        sums = add_pixel(sums, target, i);
-        sums = add_pixel(sums, target, i + 1);
-        i += 2;
+    while 16 <= n - i {
+        if !part_within(target, i * 3, (i + 16) * 3) {
+            return Mean::Refused(refusal::PIXEL);
+        }
+        sums = add_pixels(sums, target, i, i + 16);
+        i += 16;
     }
-    if i < n {
-        sums = add_pixel(sums, target, i);
+    if !part_within(target, i * 3, n * 3) {
+        return Mean::Refused(refusal::PIXEL);
     }
-    Colour {
+    sums = add_pixels(sums, target, i, n);
+    Mean::Done(Colour {
         red: share(sums.red, n),
         green: share(sums.green, n),
         blue: share(sums.blue, n),
+    })
+}
+
+// The sums go on from those of the pixels before `from`.
+fn add_pixels(before: Sums, target: &[f32], from: usize, to: usize) -> Sums
+    requires { ⌜ (from ≤ to) × (to * 3 ≤ length (now target)) × T (allWithin (take (to * 3) (now target))) ⌝ }
+    requires { ⌜ before ≡ sumsTo (now target) from ⌝ }
+    ensures { λ r. ⌜ r ≡ sumsTo (now (target .entry)) to ⌝ }
+{
+    let mut sums = before;
+    for i in from..to {
+        sums = add_pixel(sums, target, i);
     }
+    sums
 }
 
 // The sums of the pixels before i, and pixel i.
 fn add_pixel(sums: Sums, target: &[f32], i: usize) -> Sums
-    requires { ⌜ (i * 3 + 3 ≤ length (now target)) × T (allWithin (now target)) ⌝ }
+    requires { ⌜ (i * 3 + 3 ≤ length (now target)) × T (allWithin (take (i * 3 + 3) (now target))) ⌝ }
     ensures { λ r. ⌜ (sums ≡ sumsTo (now (target .entry)) i → r ≡ sumsTo (now (target .entry)) (i + 1)) ⌝ }
 {
     let red = sums.red + float::widen_number(target[i * 3]);
@@ -205,7 +249,7 @@ fn total_refusal(w: usize, h: usize, n: usize, m: usize) -> u8
     refused(w, h, m)
 }
 
-// Then the pixels, 32 numbers at a time: the next ones' tests are done while the additions, which may not be reordered, wait for
+// Then the pixels, 16 numbers at a time: the next ones' tests are done while the additions, which may not be reordered, wait for
 // each other.
 fn total_tested(target: &[f32], canvas: &[f32]) -> Total
     requires { ⌜ length (now target) ≡ length (now canvas) ⌝ }
@@ -225,49 +269,41 @@ fn total_tested(target: &[f32], canvas: &[f32]) -> Total
     Total::Done(sum)
 }
 
-fn part_end(i: usize, n: usize) -> usize
-    requires { ⌜ i < n ⌝ }
-    ensures { λ r. ⌜ (i < r) × (r ≤ n) ⌝ }
-{
-    if n - i < 32 {
-        return n;
-    }
-    i + 32
-}
-
-// All before `from` were within 0..1. The largest pattern of a number, capped, shows whether all are; a -0.0, or a number that is not
-// within, makes it look again. The loop has no way out, so that it is vectorised.
+// The same of two pictures, in one loop.
 fn both_within(target: &[f32], canvas: &[f32], from: usize, to: usize) -> bool
     requires { ⌜ (from ≤ to) × (to ≤ length (now target)) × (to ≤ length (now canvas)) ⌝ }
     requires { ⌜ T (allWithin (take from (now target))) × T (allWithin (take from (now canvas))) ⌝ }
     ensures { λ r. ⌜ r ≡ allWithin (take to (now (target .entry))) && allWithin (take to (now (canvas .entry))) ⌝ }
 {
-    let mut top = 0u32;
+    let mut seen = 0u32;
     for k in from..to {
-        top = float::larger_pattern(top, float::capped(target[k]));
-        top = float::larger_pattern(top, float::capped(canvas[k]));
+        seen = seen | (float::marks(target[k]) | float::marks(canvas[k]));
     }
-    if top <= 0x3f80_0000 {
+    if seen < 0x8000_0000 {
         return true;
     }
-    each_within(target, canvas, from, to)
+    each_within(target, from, to) & each_within(canvas, from, to)
 }
 
-// The same, one by one.
-fn each_within(target: &[f32], canvas: &[f32], from: usize, to: usize) -> bool
-    requires { ⌜ (from ≤ to) × (to ≤ length (now target)) × (to ≤ length (now canvas)) ⌝ }
-    requires { ⌜ T (allWithin (take from (now target))) × T (allWithin (take from (now canvas))) ⌝ }
-    ensures { λ r. ⌜ r ≡ allWithin (take to (now (target .entry))) && allWithin (take to (now (canvas .entry))) ⌝ }
-{
-    let mut ok = true;
-    for k in from..to {
-        ok = ok & (float::within(target[k]) & float::within(canvas[k]));
-    }
-    ok
-}
-
-// The sum goes on from that of the numbers before `from`.
+// The sum goes on from that of the numbers before `from`. By eights, whose number the compiler knows: it works out two differences
+// and two squares at once.
 fn add_squares(target: &[f32], canvas: &[f32], from: usize, to: usize, before: f64) -> f64
+    requires { ⌜ (from ≤ to) × (to ≤ length (now target)) × (to ≤ length (now canvas)) ⌝ }
+    requires { ⌜ T (allWithin (take to (now target))) × T (allWithin (take to (now canvas))) ⌝ }
+    requires { ⌜ before ≡ totalTo (now target) (now canvas) from ⌝ }
+    ensures { λ r. ⌜ r ≡ totalTo (now (target .entry)) (now (canvas .entry)) to ⌝ }
+{
+    let mut sum = before;
+    let mut k = from;
+    while 8 <= to - k {
+        sum = add_each(target, canvas, k, k + 8, sum);
+        k += 8;
+    }
+    add_each(target, canvas, k, to, sum)
+}
+
+// One by one.
+fn add_each(target: &[f32], canvas: &[f32], from: usize, to: usize, before: f64) -> f64
     requires { ⌜ (from ≤ to) × (to ≤ length (now target)) × (to ≤ length (now canvas)) ⌝ }
     requires { ⌜ T (allWithin (take to (now target))) × T (allWithin (take to (now canvas))) ⌝ }
     requires { ⌜ before ≡ totalTo (now target) (now canvas) from ⌝ }

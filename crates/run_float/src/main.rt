@@ -47,11 +47,11 @@ fn lists(xs: &[f32]) {
     show::text(b"\n");
 }
 
-fn holding(b: u32) {
+fn marking(b: u32) {
     let x = float::of_bits32(b);
     show::hex(b as u64, 8);
-    show::text(b": capped ");
-    show::hex(float::bits32(float::capped(x)) as u64, 8);
+    show::text(b": marks ");
+    show::hex(float::marks(x) as u64, 8);
     show::text(b"\n");
 }
 
@@ -118,13 +118,13 @@ fn all() {
     lists(&[0.0, 0.0, 0.0, 0.0, 0.0, 0.0, 0.0, 0.0, nan, 0.0]);
 }
 
-fn held() {
+fn marked() {
     // 1.5, -3, infinities, a NaN
-    holding(0x3fc0_0000);
-    holding(0xc040_0000);
-    holding(0x7f80_0000);
-    holding(0xff80_0000);
-    holding(0x7fc0_0000);
+    marking(0x3fc0_0000);
+    marking(0xc040_0000);
+    marking(0x7f80_0000);
+    marking(0xff80_0000);
+    marking(0x7fc0_0000);
 }
 
 fn main() {
@@ -132,5 +132,5 @@ fn main() {
     singles();
     clamps();
     all();
-    held();
+    marked();
 }

@@ -15,7 +15,7 @@ use Rattle.laws.specs.EveryLaws.{every-of}
 use Rattle.laws.specs.RowLaws.{part-cut, length-part, length-cut, getD-cut, put-row}
 use Rattle.float.specs.Within.{number, allNumbers}
 use Rattle.float.specs.Numbers.{itself-number}
-use Rattle.float.specs.CappedLaws.{parts-numbers}
+use Rattle.float.specs.MarksLaws.{parts-numbers}
 use Rattle.rows.specs.Places.{RowSizes, rowOf}
 use Rattle.table.specs.Fills.{rowAt, NumbersBetween}
 

@@ -153,8 +153,41 @@ fn first_row(ymin: i32, hi: usize) -> usize
     if first < hi { first } else { hi }
 }
 
-// Rows lo to hi, without hi: all sums, or those that read the canvas.
+// Rows lo to hi, without hi: all sums, or those that read the canvas. Some at a time, about 256 pixels: they are still near when their
+// sums are worked out, after their test.
 fn rebuild_rows(
+    target: &[f32],
+    canvas: &[f32],
+    w: usize,
+    h: usize,
+    table: &mut [f64],
+    lo: usize,
+    hi: usize,
+    whole: bool,
+)
+    requires { ⌜ Sizes w h (now target) (now canvas) (now table) × (lo ≤ hi) × (hi ≤ h) ⌝ }
+    ensures { λ _. ⌜ now (table .exit) ≡ putRows ((w + 1) * 15) (rowAt whole w (now (target .entry)) (now (canvas .entry))) lo hi (now (table .entry)) ⌝ }
+{
+    let mut y = lo;
+    while y < hi {
+        let e = some_end(y, hi, w);
+        rebuild_some(target, canvas, w, h, table, y, e, whole);
+        y = e;
+    }
+}
+
+fn some_end(y: usize, hi: usize, w: usize) -> usize
+    requires { ⌜ (y < hi) × (w ≤ 256) ⌝ }
+    ensures { λ r. ⌜ (y < r) × (r ≤ hi) ⌝ }
+{
+    let n = 256 / (w + 1) + 1;
+    if hi - y < n {
+        return hi;
+    }
+    y + n
+}
+
+fn rebuild_some(
     target: &[f32],
     canvas: &[f32],
     w: usize,

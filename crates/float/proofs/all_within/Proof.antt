@@ -1,42 +1,36 @@
--- While each pattern is at most that of 1.0, the elements passed are within 0..1.
-use mathlib.Core.Path.{_≡_, sym, subst}
-use Prim.Native.Nat.{_≤_, _-_}
-use mathlib.Core.Bool.{true}
-use borrow.Author.Tests.{leb-true}
-use lib.Dec.{T, leb}
-use lib.ListN.{length, take, getD}
-use lib.Ieee.{Float, nan}
-use Rattle.laws.specs.Bools.{is-true, and-left, and-right}
+-- While the top bit is clear, the elements passed are within 0..1.
+use mathlib.Core.Path.{sym}
+use Prim.Native.Nat.{_≤_, _<_, _-_}
+use lib.Dec.{T}
+use lib.ListN.{length, take}
+use Rattle.laws.specs.Bools.{is-true}
 use Rattle.laws.specs.Every.{every}
 use Rattle.laws.specs.EveryLaws.{every-end}
-use Rattle.float.specs.Within.{within, number}
-use Rattle.float.specs.CappedLaws.{capped-number, capped-shows, one-more}
+use Rattle.float.specs.Within.{within}
+use Rattle.float.specs.MarksLaws.{or-low, one-more}
 use borrow.Author.Needs.{needs}
 use native.Mathlib.Omega.{arith}
 use Rattle.float.proofs.all_within.Statement.{statement}
 use Rattle.float.proofs.all_within.Tie as tie
 
 abbrev Inv-loop : tie.InvT-loop
-Inv-loop xs ok₀ i₀ ok i = (i ≤ length xs) × (ok ≡ true → T (every within (take i xs)))
+Inv-loop xs seen₀ i₀ seen i = (i ≤ length xs) × (seen < 0x8000_0000 → T (every within (take i xs)))
 
 abbrev μ-loop : tie.MeasureT-loop
-μ-loop xs ok₀ i₀ ok i = length xs - i
+μ-loop xs seen₀ i₀ seen i = length xs - i
 
 loop-holds : tie.Need-loop-holds Inv-loop μ-loop
 unfolding every
 loop-holds c = (search needs, λ h. tt)
 
-mul-capped : tie.Need-mul-capped Inv-loop μ-loop
-mul-capped c = search needs
+mul-marks : tie.Need-mul-marks Inv-loop μ-loop
+mul-marks c = search needs
 
-shared-slice-read-capped : tie.Need-shared-slice-read-capped Inv-loop μ-loop
-shared-slice-read-capped c = search needs
+shared-slice-read-marks : tie.Need-shared-slice-read-marks Inv-loop μ-loop
+shared-slice-read-marks c = search needs
 
-capped-requires : tie.Need-capped-requires Inv-loop μ-loop
-capped-requires c κs = search needs
-
-larger-pattern-requires : tie.Need-larger-pattern-requires Inv-loop μ-loop
-larger-pattern-requires c κs = subst (λ (v : Float). T (number v)) (sym (c .capped .ensures)) (capped-number _)
+marks-requires : tie.Need-marks-requires Inv-loop μ-loop
+marks-requires c κs = search needs
 
 add-i : tie.Need-add-i Inv-loop μ-loop
 add-i c = search needs
@@ -46,14 +40,8 @@ loop-less c = search needs
 
 loop-again : tie.Need-loop-again Inv-loop μ-loop
 loop-again c =
-    let l = c .before .before .before .before in
-    let xs = l .before .before .args .xs .now in
-    let i = l .loop .i in
-    let test = leb (c .larger-pattern .result) 0x3F80_0000 in (
-      search needs,
-      λ h. one-more xs i (omega arith) (l .loop .inv .1 (and-left (l .loop .ok) test h))
-          (capped-shows (getD xs i nan) (c .before .capped .result) 0 (c .larger-pattern .result) (c .before .capped .ensures) (c .larger-pattern .ensures) (leb-true (c .larger-pattern .result) 0x3F80_0000 (and-right (l .loop .ok) test h)) .1),
-    )
+    let l = c .before .before .before in
+    (search needs, λ h. let u = or-low (l .loop .seen) (c .marks .result) 0x8000_0000 h in one-more (l .before .before .args .xs .now) (l .loop .i) (omega arith) (l .loop .inv .1 (u .0)) (c .marks .ensures .shows (u .1)))
 
 returns : tie.Need-returns Inv-loop μ-loop
 returns c =
@@ -73,10 +61,9 @@ all-within-spec =
     Inv-loop
     μ-loop
     loop-holds
-    mul-capped
-    shared-slice-read-capped
-    capped-requires
-    larger-pattern-requires
+    mul-marks
+    shared-slice-read-marks
+    marks-requires
     add-i
     loop-less
     loop-again

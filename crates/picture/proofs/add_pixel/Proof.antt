@@ -1,6 +1,6 @@
 -- Three numbers within 0..1, widened and added.
 use Prim.Native.Nat.{_+_, _*_}
-use Rattle.picture.specs.PixelLaws.{sums-more, number-at}
+use Rattle.picture.specs.PixelLaws.{sums-more, number-before}
 use borrow.Author.Needs.{needs}
 use native.Mathlib.Omega.{arith}
 use Rattle.picture.proofs.add_pixel.Statement.{statement}
@@ -18,7 +18,7 @@ shared-slice-read-widen-number c = search needs
 widen-number-requires : tie.Need-widen-number-requires
 widen-number-requires c κs =
     let s = c .before .before in
-    number-at (s .args .target .now) (s .args .i * 3) (s .pre .1) (omega arith)
+    number-before (s .args .target .now) (s .args .i * 3 + 3) (s .args .i * 3) (s .pre .1) (omega arith) (s .pre .0)
 
 mul-widen-number-3 : tie.Need-mul-widen-number-3
 mul-widen-number-3 c = search needs
@@ -35,7 +35,7 @@ shared-slice-read-widen-number-2 c = search needs
 widen-number-requires-2 : tie.Need-widen-number-requires-2
 widen-number-requires-2 c κs =
     let s = c .before .before .before .before .before in
-    number-at (s .args .target .now) (s .args .i * 3 + 1) (s .pre .1) (omega arith)
+    number-before (s .args .target .now) (s .args .i * 3 + 3) (s .args .i * 3 + 1) (s .pre .1) (omega arith) (s .pre .0)
 
 mul-widen-number-5 : tie.Need-mul-widen-number-5
 mul-widen-number-5 c = search needs
@@ -52,7 +52,7 @@ shared-slice-read-widen-number-3 c = search needs
 widen-number-requires-3 : tie.Need-widen-number-requires-3
 widen-number-requires-3 c κs =
     let s = c .before .before .before .before .before .before .before .before in
-    number-at (s .args .target .now) (s .args .i * 3 + 2) (s .pre .1) (omega arith)
+    number-before (s .args .target .now) (s .args .i * 3 + 3) (s .args .i * 3 + 2) (s .pre .1) (omega arith) (s .pre .0)
 
 returns : tie.Need-returns
 returns c e =

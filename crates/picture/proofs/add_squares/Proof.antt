@@ -1,8 +1,8 @@
--- The sum so far is that of the numbers passed.
-use mathlib.Core.Path.{_≡_, ap, _∙_}
-use Prim.Native.Nat.{_≤_, _-_}
+-- The sum so far is that of the eights passed.
+use mathlib.Core.Path.{_≡_}
+use Prim.Native.Nat.{_+_, _-_, _≤_}
 use Rattle.picture.specs.Pixels.{totalTo}
-use Rattle.picture.specs.PixelLaws.{total-more, within-before}
+use Rattle.picture.specs.PixelLaws.{within-first}
 use borrow.Author.Needs.{needs}
 use native.Mathlib.Omega.{arith}
 use Rattle.picture.proofs.add_squares.Statement.{statement}
@@ -15,25 +15,21 @@ abbrev μ-loop : tie.MeasureT-loop
 μ-loop target canvas from to before sum₀ k₀ sum k = to - k
 
 loop-holds : tie.Need-loop-holds Inv-loop μ-loop
-loop-holds c = (omega arith, c .before .before .pre .1 .1)
+loop-holds c = let s = c .before .before in (s .pre .0 .0, s .pre .1 .1)
 
-mul-squared : tie.Need-mul-squared Inv-loop μ-loop
-mul-squared c = search needs
+sub-loop : tie.Need-sub-loop Inv-loop μ-loop
+sub-loop c = search needs
 
-shared-slice-read-squared : tie.Need-shared-slice-read-squared Inv-loop μ-loop
-shared-slice-read-squared c = search needs
+add-add-each : tie.Need-add-add-each Inv-loop μ-loop
+add-add-each c = search needs
 
-mul-squared-2 : tie.Need-mul-squared-2 Inv-loop μ-loop
-mul-squared-2 c = search needs
-
-shared-slice-read-squared-2 : tie.Need-shared-slice-read-squared-2 Inv-loop μ-loop
-shared-slice-read-squared-2 c = search needs
-
-squared-requires : tie.Need-squared-requires Inv-loop μ-loop
-squared-requires c κs =
-    let a = c .before .before .before .before .before .before in
-    let k = c .before .before .before .loop .k in
-    (within-before (a .args .target .now) (a .args .to) k (a .pre .1 .0 .0) (omega arith) (omega arith), within-before (a .args .canvas .now) (a .args .to) k (a .pre .1 .0 .1) (omega arith) (omega arith))
+add-each-requires : tie.Need-add-each-requires Inv-loop μ-loop
+add-each-requires c κs =
+    let s = c .before .before .before .before in
+    let a = s .args in
+    let l = c .before .loop in
+    let e : l .k + 8 ≤ a .to = omega arith in
+    ((omega arith, omega arith, omega arith), ((within-first (a .target .now) (l .k + 8) (a .to) e (s .pre .1 .0 .0), within-first (a .canvas .now) (l .k + 8) (a .to) e (s .pre .1 .0 .1)), l .inv .1))
 
 add-k : tie.Need-add-k Inv-loop μ-loop
 add-k c = search needs
@@ -42,17 +38,16 @@ loop-less : tie.Need-loop-less Inv-loop μ-loop
 loop-less c = search needs
 
 loop-again : tie.Need-loop-again Inv-loop μ-loop
-loop-again c =
-    let l = c .before .before .before .before in
-    let a = l .before .before .before .args in
-    (omega arith, total-more (a .target .now) (a .canvas .now) (l .loop .k) (l .loop .sum) (c .squared .result) (l .loop .inv .1) (c .squared .ensures))
+loop-again c = (omega arith, c .add-each .ensures)
+
+add-each-requires-2 : tie.Need-add-each-requires-2 Inv-loop μ-loop
+add-each-requires-2 c κs =
+    let s = c .before .before .before .before in
+    let l = c .before .loop in
+    ((l .inv .0, s .pre .0 .1, s .pre .0 .2), (s .pre .1 .0, l .inv .1))
 
 returns : tie.Need-returns Inv-loop μ-loop
-returns c =
-    let l = c .before .loop in
-    let a = c .before .before .before .before .args in
-    let e : l .k ≡ a .to = omega arith in
-    l .inv .1 ∙ ap (totalTo (a .target .now) (a .canvas .now)) e
+returns c = c .add-each2 .ensures
 
 pub add-squares-spec : {M : Type 1} → statement M
 add-squares-spec =
@@ -61,12 +56,11 @@ add-squares-spec =
     Inv-loop
     μ-loop
     loop-holds
-    mul-squared
-    shared-slice-read-squared
-    mul-squared-2
-    shared-slice-read-squared-2
-    squared-requires
+    sub-loop
+    add-add-each
+    add-each-requires
     add-k
     loop-less
     loop-again
+    add-each-requires-2
     returns)

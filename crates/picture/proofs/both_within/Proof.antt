@@ -1,51 +1,45 @@
--- While the largest pattern is at most that of 1.0, the numbers passed are within 0..1, in both pictures.
-use mathlib.Core.Path.{_≡_, sym, subst}
+-- While the top bit is clear, the numbers passed are within 0..1, in both pictures.
+use mathlib.Core.Path.{_≡_, sym, ap₂}
 use mathlib.Core.Bool.{_&&_}
-use Prim.Native.Nat.{_≤_, _-_}
+use Prim.Native.Nat.{_≤_, _<_, _-_}
+use lib.Bits.{bitOr}
 use lib.Dec.{T}
-use lib.ListN.{getD, take}
-use lib.Ieee.{Float, nan}
+use lib.ListN.{take}
 use lib.Ieee.Fits.{and-i}
 use Rattle.laws.specs.Bools.{is-true}
-use Rattle.float.specs.Within.{number, allWithin}
-use Rattle.float.specs.CappedLaws.{capped-number, capped-shows, one-more}
+use Rattle.float.specs.Within.{allWithin}
+use Rattle.float.specs.MarksLaws.{or-low, one-more}
 use borrow.Author.Needs.{needs}
 use native.Mathlib.Omega.{arith}
 use Rattle.picture.proofs.both_within.Statement.{statement}
 use Rattle.picture.proofs.both_within.Tie as tie
 
 abbrev Inv-loop : tie.InvT-loop
-Inv-loop target canvas from to top₀ k₀ top k = (k ≤ to) × (top ≤ 0x3F80_0000 → T (allWithin (take k target)) × T (allWithin (take k canvas)))
+Inv-loop target canvas from to seen₀ k₀ seen k = (k ≤ to) × (seen < 0x8000_0000 → T (allWithin (take k target)) × T (allWithin (take k canvas)))
 
 abbrev μ-loop : tie.MeasureT-loop
-μ-loop target canvas from to top₀ k₀ top k = to - k
+μ-loop target canvas from to seen₀ k₀ seen k = to - k
 
 loop-holds : tie.Need-loop-holds Inv-loop μ-loop
 loop-holds c = (omega arith, λ h. c .before .before .pre .1)
 
-mul-capped : tie.Need-mul-capped Inv-loop μ-loop
-mul-capped c = search needs
+mul-marks : tie.Need-mul-marks Inv-loop μ-loop
+mul-marks c = search needs
 
-shared-slice-read-capped : tie.Need-shared-slice-read-capped Inv-loop μ-loop
-shared-slice-read-capped c = search needs
+shared-slice-read-marks : tie.Need-shared-slice-read-marks Inv-loop μ-loop
+shared-slice-read-marks c = search needs
 
-capped-requires : tie.Need-capped-requires Inv-loop μ-loop
-capped-requires c κs = search needs
+marks-requires : tie.Need-marks-requires Inv-loop μ-loop
+marks-requires c κs = search needs
 
-larger-pattern-requires : tie.Need-larger-pattern-requires Inv-loop μ-loop
-larger-pattern-requires c κs = subst (λ (v : Float). T (number v)) (sym (c .capped .ensures)) (capped-number _)
+mul-marks-2 : tie.Need-mul-marks-2 Inv-loop μ-loop
+mul-marks-2 c = search needs
 
-mul-capped-2 : tie.Need-mul-capped-2 Inv-loop μ-loop
-mul-capped-2 c = search needs
+shared-slice-read-marks-2 : tie.Need-shared-slice-read-marks-2 Inv-loop μ-loop
+shared-slice-read-marks-2 c = search needs
 
-shared-slice-read-capped-2 : tie.Need-shared-slice-read-capped-2 Inv-loop μ-loop
-shared-slice-read-capped-2 c = search needs
-
-capped-requires-2 : tie.Need-capped-requires-2 Inv-loop μ-loop
-capped-requires-2 c κs = search needs
-
-larger-pattern-requires-2 : tie.Need-larger-pattern-requires-2 Inv-loop μ-loop
-larger-pattern-requires-2 c κs = subst (λ (v : Float). T (number v)) (sym (c .capped2 .ensures)) (capped-number _)
+marks-requires-2 : tie.Need-marks-requires-2 Inv-loop μ-loop
+marks-requires-2 c κs = search needs
 
 add-k : tie.Need-add-k Inv-loop μ-loop
 add-k c = search needs
@@ -55,17 +49,16 @@ loop-less c = search needs
 
 loop-again : tie.Need-loop-again Inv-loop μ-loop
 loop-again c =
-    let l = c .before .before .before .before .before .before .before in
-    let a = l .before .before .before in
-    let t = a .args .target .now in
-    let p = a .args .canvas .now in
-    let k = l .loop .k in (
+    let l = c .before .before .before .before .before in
+    let a = l .before .before .before .args in
+    let p = c .before .before .marks in
+    let q = c .marks2 in (
       omega arith,
       λ h.
-          let v = capped-shows (getD p k nan) _ (c .before .before .before .larger-pattern .result) (c .larger-pattern2 .result) (c .before .capped2 .ensures) (c .larger-pattern2 .ensures) h in
-          let u = capped-shows (getD t k nan) _ (l .loop .top) (c .before .before .before .larger-pattern .result) (c .before .before .before .before .capped .ensures) (c .before .before .before .larger-pattern .ensures) (v .0) in
+          let u = or-low (l .loop .seen) (bitOr (p .result) (q .result)) 0x8000_0000 h in
+          let v = or-low (p .result) (q .result) 0x8000_0000 (u .1) in
           let i = l .loop .inv .1 (u .0) in
-          (one-more t k (omega arith) (i .0) (u .1), one-more p k (omega arith) (i .1) (v .1)),
+          (one-more (a .target .now) (l .loop .k) (omega arith) (i .0) (p .ensures .shows (v .0)), one-more (a .canvas .now) (l .loop .k) (omega arith) (i .1) (q .ensures .shows (v .1))),
     )
 
 returns : tie.Need-returns Inv-loop μ-loop
@@ -73,16 +66,23 @@ returns c =
     let l = c .before .before .loop in
     let a = c .before .before .before .before .before .args in
     let e : l .k ≡ a .to = omega arith in
-    let i = l .inv .1 (omega arith) in
+    let i = l .inv .1 (c .if1 .taken) in
     let t = allWithin (take (a .to) (a .target .now)) in
     let p = allWithin (take (a .to) (a .canvas .now)) in
     sym (is-true (t && p) (and-i t p (rw e at (i .0)) (rw e at (i .1))))
 
 each-within-requires : tie.Need-each-within-requires Inv-loop μ-loop
-each-within-requires c κs = c .before .before .before .before .before .pre
+each-within-requires c κs =
+    let s = c .before .before .before .before .before .pre in
+    (s .0 .0, s .0 .1, s .1 .0)
+
+each-within-requires-2 : tie.Need-each-within-requires-2 Inv-loop μ-loop
+each-within-requires-2 c κs =
+    let s = c .before .before .before .before .before .before .pre in
+    (s .0 .0, s .0 .2, s .1 .1)
 
 returns-2 : tie.Need-returns-2 Inv-loop μ-loop
-returns-2 c = search needs
+returns-2 c = ap₂ _&&_ (c .before .each-within .ensures) (c .each-within2 .ensures)
 
 pub both-within-spec : {M : Type 1} → statement M
 both-within-spec =
@@ -91,17 +91,16 @@ both-within-spec =
     Inv-loop
     μ-loop
     loop-holds
-    mul-capped
-    shared-slice-read-capped
-    capped-requires
-    larger-pattern-requires
-    mul-capped-2
-    shared-slice-read-capped-2
-    capped-requires-2
-    larger-pattern-requires-2
+    mul-marks
+    shared-slice-read-marks
+    marks-requires
+    mul-marks-2
+    shared-slice-read-marks-2
+    marks-requires-2
     add-k
     loop-less
     loop-again
     returns
     each-within-requires
+    each-within-requires-2
     returns-2)
