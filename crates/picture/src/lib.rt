@@ -109,16 +109,6 @@ pub fn fill(w: usize, h: usize, red: f32, green: f32, blue: f32, canvas: &mut [f
 
 // ---- the tests of a part
 
-fn part_end(i: usize, n: usize) -> usize
-    requires { ⌜ i < n ⌝ }
-    ensures { λ r. ⌜ (i < r) × (r ≤ n) ⌝ }
-{
-    if n - i < 16 {
-        return n;
-    }
-    i + 16
-}
-
 // All before `from` were within 0..1. The marks together show whether all are; a -0.0, or a number that is not within, makes it look
 // again. The loop has no way out, so that it is vectorised.
 fn part_within(picture: &[f32], from: usize, to: usize) -> bool
@@ -269,7 +259,17 @@ fn total_tested(target: &[f32], canvas: &[f32]) -> Total
     Total::Done(sum)
 }
 
-// The same of two pictures, in one loop.
+fn part_end(i: usize, n: usize) -> usize
+    requires { ⌜ i < n ⌝ }
+    ensures { λ r. ⌜ (i < r) × (r ≤ n) ⌝ }
+{
+    if n - i < 16 {
+        return n;
+    }
+    i + 16
+}
+
+// As `part_within`, of two pictures in one loop.
 fn both_within(target: &[f32], canvas: &[f32], from: usize, to: usize) -> bool
     requires { ⌜ (from ≤ to) × (to ≤ length (now target)) × (to ≤ length (now canvas)) ⌝ }
     requires { ⌜ T (allWithin (take from (now target))) × T (allWithin (take from (now canvas))) ⌝ }
@@ -316,7 +316,7 @@ fn add_each(target: &[f32], canvas: &[f32], from: usize, to: usize, before: f64)
     sum
 }
 
-// The same without the tests, for pictures within 0..1.
+// A total without the tests, for pictures within 0..1.
 pub fn total_within(target: &[f32], canvas: &[f32]) -> f64
     requires { ⌜ length (now target) ≡ length (now canvas) ⌝ }
     requires { ⌜ T (allWithin (now target)) × T (allWithin (now canvas)) ⌝ }
