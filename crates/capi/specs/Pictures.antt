@@ -3,7 +3,7 @@ use mathlib.Core.Path.{_≡_}
 use mathlib.Core.List.{List}
 use Prim.Native.Nat.{ℕ}
 use lib.Ieee.{Float}
-use Rattle.score.specs.Levels.{AlphaLevelsSays}
+use Rattle.grade.specs.Levels.{AlphaLevelsSays}
 use Rattle.picture.specs.declared.Colour.{Colour}
 use Rattle.picture.specs.Pixels.{FilledCanvasSays, meanRefusal, meanOf, totalRefusal, totalOf}
 use Rattle.capi.specs.declared.SillbadgerAnswer.{SillbadgerAnswer}

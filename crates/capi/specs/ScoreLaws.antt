@@ -17,13 +17,14 @@ use Rattle.refusal.specs.Lengths.{badPicture, badTable}
 use Rattle.float.specs.Within.{within}
 use Rattle.cover.specs.declared.Kind.{Kind}
 use Rattle.cover.specs.Cover.{badPlaces}
-use Rattle.score.specs.declared.Score.{Score}
-use Rattle.score.specs.declared.Scored.{Scored}
-use Rattle.score.specs.declared.Scored.the-variants.{Done, Refused}
+use Rattle.grade.specs.declared.Score.{Score}
+use Rattle.grade.specs.declared.Scored.{Scored}
+use Rattle.grade.specs.declared.Scored.the-variants.{Done, Refused}
 use Rattle.score.specs.declared.Request.the-variants.{Opacity}
-use Rattle.score.specs.Scoring.{badLevels, spanRefusal, pointRefusal, spanSums, pointSums, scoreAt}
-use Rattle.score.specs.Finalize.{finalized}
-use Rattle.score.specs.Scoring as scoring
+use Rattle.grade.specs.AlphaSweep.{badLevels}
+use Rattle.score.specs.Scoring.{spanRefusal, pointRefusal, spanSums, pointSums, scoreAt}
+use Rattle.grade.specs.Finalize.{finalized}
+use Rattle.grade.specs.Answered as scoring
 use Rattle.capi.specs.declared.SillbadgerAnswer.{SillbadgerAnswer}
 use Rattle.capi.specs.Answers.{refusedBy, shapeless, answered}
 use Rattle.capi.specs.Scores.{

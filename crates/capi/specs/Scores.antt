@@ -13,12 +13,12 @@ use Rattle.refusal.specs.Lengths.{badPicture, badTable}
 use Rattle.cover.specs.declared.Kind.{Kind}
 use Rattle.cover.specs.declared.Kind.the-variants.{Circle, Triangle, Quad}
 use Rattle.cover.specs.Cover.{badPlaces}
-use Rattle.score.specs.declared.Score.{Score}
-use Rattle.score.specs.declared.Scored.{Scored}
-use Rattle.score.specs.declared.Scored.the-variants.{Done, Refused}
+use Rattle.grade.specs.declared.Score.{Score}
+use Rattle.grade.specs.declared.Scored.{Scored}
+use Rattle.grade.specs.declared.Scored.the-variants.{Done, Refused}
 use Rattle.score.specs.declared.Request.{Request}
 use Rattle.score.specs.declared.Request.the-variants.{Levels}
-use Rattle.score.specs.Finalize.{finalized}
+use Rattle.grade.specs.Finalize.{finalized}
 use Rattle.score.specs.Scoring.{spanSums, pointSums, scoreAt, spanRefusal, pointRefusal}
 use Rattle.crossing.specs.Outlines.{kindOf}
 use Rattle.capi.specs.declared.SillbadgerAnswer.{SillbadgerAnswer}

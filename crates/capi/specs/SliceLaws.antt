@@ -9,7 +9,7 @@ use lib.IntN.{ℤ}
 use lib.Ieee.{Float}
 use Rattle.laws.specs.Answer.{Answer, answer}
 use Rattle.laws.specs.Fit.{no-both}
-use Rattle.score.specs.LevelLaws.{AlphaLevelsSays-unique}
+use Rattle.grade.specs.LevelLaws.{AlphaLevelsSays-unique}
 use Rattle.picture.specs.PixelLaws.{FilledCanvasSays-unique}
 use Rattle.table.specs.TableLaws.{BuildSays-unique, UpdateCanvasRowsSays-unique}
 use Rattle.capi.specs.declared.SillbadgerAnswer.{SillbadgerAnswer}

@@ -15,7 +15,7 @@ use picture::Total;
 pub extern "C" fn sillbadger_levels(bits: u32, levels: &mut [f32]) -> u8
     ensures { λ r. ⌜ SillbadgerLevelsSays bits (now (levels .entry)) r (now (levels .exit)) ⌝ }
 {
-    score::levels::alpha_levels(bits, levels)
+    grade::levels::alpha_levels(bits, levels)
 }
 
 // Every pixel has the colour.

@@ -15,8 +15,8 @@ ghost use Rattle.capi.specs.Scores.{
 use crate::SillbadgerAnswer;
 use cover::Kind;
 use crossing::Outlined;
+use grade::Scored;
 use score::Request;
-use score::Scored;
 
 fn told(s: Scored) -> SillbadgerAnswer
     ensures { λ r. ⌜ r ≡ scoredTold s ⌝ }

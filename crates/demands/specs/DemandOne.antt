@@ -29,13 +29,15 @@ use Rattle.sums.specs.Sums.{noSums}
 use Rattle.table.specs.Table.{badLengths, buildRefusal, updateRefusal, BuildSays, UpdateCanvasRowsSays}
 use Rattle.score.specs.declared.Request.{Request}
 use Rattle.score.specs.declared.Request.the-variants.{Levels}
-use Rattle.score.specs.declared.Score.{Score}
-use Rattle.score.specs.declared.Scored.{Scored}
-use Rattle.score.specs.declared.Scored.the-variants.{Done, Refused}
+use Rattle.grade.specs.declared.Score.{Score}
+use Rattle.grade.specs.declared.Scored.{Scored}
+use Rattle.grade.specs.declared.Scored.the-variants.{Done, Refused}
 use Rattle.score.specs.declared.Collected.{Collected}
-use Rattle.score.specs.Levels.{levels, levelsRefusal, AlphaLevelsSays}
-use Rattle.score.specs.Swept.{swept}
-use Rattle.score.specs.Scoring.{badCount, badOpacity, badLevels, spanSums, pointSums, scoreAt, spanRefusal, pointRefusal, sweepRefusal, spanSumsRefusal, pointSumsRefusal, answered, collected, AlphaSweepSays, CollectSpanSumsSays, CollectPointSumsSays, SpanScoreSays, PointScoreSays}
+use Rattle.grade.specs.Levels.{levels, levelsRefusal, AlphaLevelsSays}
+use Rattle.grade.specs.Swept.{swept}
+use Rattle.grade.specs.Answered.{answered}
+use Rattle.grade.specs.AlphaSweep.{badLevels, sweepRefusal, AlphaSweepSays}
+use Rattle.score.specs.Scoring.{badCount, badOpacity, spanSums, pointSums, scoreAt, spanRefusal, pointRefusal, spanSumsRefusal, pointSumsRefusal, collected, CollectSpanSumsSays, CollectPointSumsSays, SpanScoreSays, PointScoreSays}
 use Rattle.picture.specs.declared.Colour.{Colour}
 use Rattle.picture.specs.declared.Mean.{Mean}
 use Rattle.picture.specs.declared.Total.{Total}

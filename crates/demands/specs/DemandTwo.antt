@@ -13,14 +13,15 @@ use Rattle.cover.specs.Cover.{count}
 use Rattle.sums.specs.declared.ShapeSums.{ShapeSums}
 use Rattle.score.specs.declared.Request.{Request}
 use Rattle.score.specs.declared.Request.the-variants.{Opacity, Levels}
-use Rattle.score.specs.declared.Score.{Score}
-use Rattle.score.specs.declared.Scored.{Scored}
-use Rattle.score.specs.declared.Scored.the-variants.{Done, Refused}
-use Rattle.score.specs.Finalize.{noScore, finalized}
-use Rattle.score.specs.Sweep.{Found, nowhere, at, bestOf}
-use Rattle.score.specs.Swept.{level, changeOf, sweptAt, swept}
+use Rattle.grade.specs.declared.Score.{Score}
+use Rattle.grade.specs.declared.Scored.{Scored}
+use Rattle.grade.specs.declared.Scored.the-variants.{Done, Refused}
+use Rattle.grade.specs.Finalize.{noScore, finalized}
+use Rattle.grade.specs.Sweep.{Found, nowhere, at, bestOf}
+use Rattle.grade.specs.Swept.{level, changeOf, sweptAt, swept}
 use Rattle.score.specs.CountLaws.{spans-count, points-count}
-use Rattle.score.specs.Scoring.{spanSums, pointSums, scoreAt, spanRefusal, pointRefusal, answered, SpanScoreSays, PointScoreSays}
+use Rattle.grade.specs.Answered.{answered}
+use Rattle.score.specs.Scoring.{spanSums, pointSums, scoreAt, spanRefusal, pointRefusal, SpanScoreSays, PointScoreSays}
 
 -- ---- the count of a span score and of a point score
 

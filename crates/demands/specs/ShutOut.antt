@@ -20,7 +20,7 @@ use Rattle.cover.specs.Cover.{covered, badPlaces}
 use Rattle.cover.specs.Figures.{cover-figures}
 use Rattle.table.specs.Table.{badLengths}
 use Rattle.score.specs.declared.Request.{Request}
-use Rattle.score.specs.declared.Scored.{Scored}
+use Rattle.grade.specs.declared.Scored.{Scored}
 use Rattle.score.specs.Scoring.{spanRefusal, SpanScoreSays}
 use Rattle.picture.specs.Painting.{blended}
 use Rattle.picture.specs.PaintingLaws.{painted-at}

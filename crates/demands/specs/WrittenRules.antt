@@ -24,10 +24,10 @@ use Rattle.table.specs.Layout.{Series, ofTarget, ofCanvas, entry}
 use Rattle.table.specs.Table.{f64Sums, picture, redone, Updated, BuildSays, UpdateCanvasRowsSays}
 use Rattle.table.specs.TableLaws.{untouched}
 use Rattle.score.specs.declared.Request.the-variants.{Levels}
-use Rattle.score.specs.Sweep.{bestOf}
-use Rattle.score.specs.SweepLaws.{BestAt, best-means}
-use Rattle.score.specs.Swept.{changeOf, sweptAt, swept}
-use Rattle.score.specs.declared.Score.{Score}
+use Rattle.grade.specs.Sweep.{bestOf}
+use Rattle.grade.specs.SweepLaws.{BestAt, best-means}
+use Rattle.grade.specs.Swept.{changeOf, sweptAt, swept}
+use Rattle.grade.specs.declared.Score.{Score}
 use Rattle.shapes.specs.declared.Shapes.{Shapes}
 use Rattle.shapes.specs.declared.Candidates.{Candidates}
 use Rattle.shapes.specs.Lists.{listed}

@@ -8,7 +8,7 @@ use Rattle.cover.specs.declared.Kind.{Kind}
 use Rattle.score.specs.declared.Request.{Request}
 use Rattle.probe_score.specs.declared.ProbedAnswer.{ProbedAnswer}
 use Rattle.probe_score.specs.declared.ProbedCollected.{ProbedCollected}
-use Rattle.score.specs.LevelLaws.{AlphaLevelsSays-unique}
+use Rattle.grade.specs.LevelLaws.{AlphaLevelsSays-unique}
 use Rattle.probe_score.specs.declared.ProbedSums.{ProbedSums}
 use Rattle.probe_score.specs.declared.ProbedScore.{ProbedScore}
 use Rattle.probe_score.specs.Probes.{

@@ -11,16 +11,16 @@ use Rattle.cover.specs.declared.Kind.{Kind}
 use Rattle.cover.specs.declared.Kind.the-variants.{Circle, Triangle, Quad}
 use Rattle.score.specs.declared.Request.{Request}
 use Rattle.score.specs.declared.Request.the-variants.{Opacity, Levels}
-use Rattle.score.specs.declared.Scored.{Scored}
-use Rattle.score.specs.declared.Scored.the-variants.{Done, Refused}
+use Rattle.grade.specs.declared.Scored.{Scored}
+use Rattle.grade.specs.declared.Scored.the-variants.{Done, Refused}
 use Rattle.score.specs.declared.Collected.{Collected}
-use Rattle.score.specs.Swept.{swept}
+use Rattle.grade.specs.Swept.{swept}
+use Rattle.grade.specs.Answered.{answered}
+use Rattle.grade.specs.AlphaSweep.{sweepRefusal}
 use Rattle.score.specs.Scoring.{
-  answered,
   collected,
   spanRefusal,
   pointRefusal,
-  sweepRefusal,
   spanSumsRefusal,
   pointSumsRefusal,
   spanSums,
@@ -28,9 +28,9 @@ use Rattle.score.specs.Scoring.{
   scoreAt,
 }
 use Rattle.sums.specs.declared.ShapeSums.{ShapeSums}
-use Rattle.score.specs.declared.Score.{Score}
-use Rattle.score.specs.Levels.{AlphaLevelsSays}
-use Rattle.score.specs.Finalize.{finalized}
+use Rattle.grade.specs.declared.Score.{Score}
+use Rattle.grade.specs.Levels.{AlphaLevelsSays}
+use Rattle.grade.specs.Finalize.{finalized}
 use Rattle.probe_score.specs.declared.ProbedSums.{ProbedSums}
 use Rattle.probe_score.specs.declared.ProbedScore.{ProbedScore}
 use Rattle.probe_score.specs.declared.ProbedAnswer.{ProbedAnswer}

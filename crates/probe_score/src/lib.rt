@@ -17,9 +17,9 @@ ghost use Rattle.probe_score.specs.Probes.{
   ProbeCollectTriangleSumsSays,
 };
 use cover::Kind;
+use grade::Scored;
 use score::Collected;
 use score::Request;
-use score::Scored;
 use sums::ShapeSums;
 
 #[repr(C)]
@@ -69,7 +69,7 @@ pub struct ProbedCollected {
 pub extern "C" fn probe_alpha_levels(bits: u32, levels: &mut [f32]) -> u8
     ensures { λ r. ⌜ ProbeAlphaLevelsSays bits (now (levels .entry)) r (now (levels .exit)) ⌝ }
 {
-    score::levels::alpha_levels(bits, levels)
+    grade::levels::alpha_levels(bits, levels)
 }
 
 fn sums_of(s: ProbedSums) -> ShapeSums
@@ -94,7 +94,7 @@ fn sums_of(s: ProbedSums) -> ShapeSums
 pub extern "C" fn probe_finalize(s: ProbedSums, opacity: f32) -> ProbedScore
     ensures { λ r. ⌜ ProbeFinalizeSays s opacity r ⌝ }
 {
-    let r = score::finalize(sums_of(s), opacity);
+    let r = grade::finalize(sums_of(s), opacity);
     ProbedScore {
         opacity: r.opacity,
         count: r.count,
@@ -257,7 +257,7 @@ pub extern "C" fn probe_triangle_point_score(
 pub extern "C" fn probe_alpha_sweep(s: ProbedSums, levels: &[f32], n: usize) -> ProbedAnswer
     ensures { λ r. ⌜ ProbeAlphaSweepSays s (now (levels .entry)) n r ⌝ }
 {
-    answer_of(score::calls::alpha_sweep(sums_of(s), levels, n))
+    answer_of(grade::sweeps::alpha_sweep(sums_of(s), levels, n))
 }
 
 #[no_mangle]

@@ -31,7 +31,7 @@ fn score_of(
         s_tc,
         count,
     };
-    let r = score::finalize(s, float::of_bits32(opacity));
+    let r = grade::finalize(s, float::of_bits32(opacity));
     show::unsigned(r.count as u64);
     figures::number(r.change);
     figures::number(r.red);

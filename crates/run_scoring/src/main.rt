@@ -11,10 +11,10 @@
 // and coordinates. A number behind x is a float's bits. A line that does not read so is a bad line.
 use bytes::scan;
 use cover::Kind;
+use grade::Scored;
 use libc::STDIN_FILENO;
 use score::Collected;
 use score::Request;
-use score::Scored;
 use sums::ShapeSums;
 
 enum Call {
@@ -240,7 +240,7 @@ fn fill_levels(levels: &mut [f32], at: u64, bad: u64) {
     if levels.len() != 70 {
         return;
     }
-    score::levels::alpha_levels(6, &mut levels[0..64]);
+    grade::levels::alpha_levels(6, &mut levels[0..64]);
     if at < 70 {
         levels[at as usize] = float32(bad);
     }
@@ -330,12 +330,12 @@ fn sweep_line(p: &[u64; 11]) -> bool {
         s_tc: [tc, tc, tc],
         count: bits32(p[4]),
     };
-    answer(score::calls::alpha_sweep(s, &levels[0..lent], p[0] as usize));
+    answer(grade::sweeps::alpha_sweep(s, &levels[0..lent], p[0] as usize));
     true
 }
 
 fn levels_on(bits: u32, levels: &mut [f32]) {
-    let no = score::levels::alpha_levels(bits, levels);
+    let no = grade::levels::alpha_levels(bits, levels);
     show::unsigned(no as u64);
     show::text(b"\n");
     figures::numbers(levels, 8);

@@ -15,23 +15,25 @@ use Rattle.refusal.specs.RefusalLaws.{above, lowest-skip, lowest-take, lowest-n
 use Rattle.refusal.specs.Lengths.{badPicture, badTable}
 use Rattle.cover.specs.declared.Kind.{Kind}
 use Rattle.cover.specs.Cover.{badPlaces}
-use Rattle.score.specs.declared.Score.{Score}
-use Rattle.score.specs.declared.Scored.{Scored}
-use Rattle.score.specs.declared.Scored.the-variants.{Done, Refused}
+use Rattle.grade.specs.declared.Score.{Score}
+use Rattle.grade.specs.declared.Scored.{Scored}
+use Rattle.grade.specs.declared.Scored.the-variants.{Done, Refused}
+use Rattle.grade.specs.Finalize.{finalized, noScore}
+use Rattle.grade.specs.FinalizeLaws.{finalized-none}
+use Rattle.grade.specs.Answered.{answered}
+use Rattle.grade.specs.AlphaSweep.{badLevels}
 use Rattle.score.specs.declared.Request.{Request}
-use Rattle.score.specs.declared.Request.the-variants.{Opacity, Levels}
+use Rattle.score.specs.declared.Request.the-variants.{Opacity}
 use Rattle.score.specs.declared.Collected.{Collected}
 use Rattle.sums.specs.declared.ShapeSums.{ShapeSums}
 use Rattle.sums.specs.Sums.{noSums}
 use Rattle.refusal.specs.ThreeTests as three
-use Rattle.score.specs.ScoringLaws.{count-range, no-count, none-spans, none-points, none-reached}
+use Rattle.score.specs.ScoringLaws.{no-count, none-spans, none-points, none-reached}
 use Rattle.cover.specs.declared.reached.Rows.{Rows}
 use Rattle.cover.specs.ReachRows.{ReachRowsSays}
 use Rattle.float.specs.Within.{within}
-use Rattle.score.specs.Finalize.{finalized, noScore}
-use Rattle.score.specs.FinalizeLaws.{finalized-none}
 use Rattle.score.specs.Usual.{Usual}
-use Rattle.score.specs.Scoring.{SpanScoreSays, PointScoreSays, spanSums, pointSums, scoreAt, badCount, badOpacity, badLevels, spanRefusal, pointRefusal, sweepRefusal, spanSumsRefusal, pointSumsRefusal, answered, noneCollected, collected}
+use Rattle.score.specs.Scoring.{SpanScoreSays, PointScoreSays, spanSums, pointSums, scoreAt, badCount, badOpacity, spanRefusal, pointRefusal, spanSumsRefusal, pointSumsRefusal, noneCollected, collected}
 
 pub or-first : (a b : Bool) → a ≡ true → a || b ≡ true
 or-first a b h = ap (λ (t : Bool). t || b) h
@@ -70,9 +72,6 @@ passed a b c d e h =
     let s = lowest-none (placeIf d) (opacityIf e ∷ []) tt (r .1) in
     let t = lowest-none (opacityIf e) [] tt (s .1) in
     record { size = p .0; lengths = q .0; count = r .0; place = s .0; opacity = t .0 }
-
-pub levels-length : (levels : List Float) → badLevels levels ≡ false → length levels ≡ 64
-levels-length levels h = eqb-true (length levels) 64 (not-false (eqb (length levels) 64) h)
 
 pub table-length : (w h n : ℕ) → badTable w h n ≡ false → n ≡ h * (w + 1) * 15
 unfolding badTable
@@ -173,44 +172,6 @@ module _ (kind : Kind) (request : Request) (opacity : Float) (levels : List Floa
         nothing-told request opacity levels (λ u. pointRefusal kind u levels w h target canvas) (pointSums kind w h target canvas) (asks (f .0 .opacity-in))
         (usual-point kind opacity levels w h (f .0) target canvas (f .1)) s
         (none-points kind w h (sized w h (f .0 .size) .h-high) (none-reached kind w h r e l) target canvas)
-
--- ---- the answers
-pub answered-refused : (n k : ℕ) (s : Score) → k ≡ n → (k ≡ 0 → ⊥) → Refused k ≡ answered n s
-answered-refused n k s e z = ap Refused e ∙ sym (ap (λ (b : Bool). cond b (Done s) (Refused n)) (ne-eqb n 0 (λ q. z (e ∙ q))))
-
-pub answered-done : (n : ℕ) (s t : Score) → n ≡ 0 → t ≡ s → Done t ≡ answered n s
-answered-done n s t z e = ap Done e ∙ sym (ap (λ (b : Bool). cond b (Done s) (Refused n)) (eq-eqb n 0 z))
-
--- ---- a sweep's tests: the length, the count, the levels
-module _ (levels : List Float) (n : ℕ) where
-  pub sweep-length : (length levels ≡ 64 → ⊥) → 2 ≡ sweepRefusal levels n
-  unfolding sweepRefusal
-  sweep-length h =
-      sym (lowest-take (lengthIf (badLevels levels)) (countIf (badCount (Levels n)) ∷ opacityIf (badOpacity (Levels n) levels) ∷ []) (ap not (ne-eqb (length levels) 64 h)) tt)
-
-  module _ (h : length levels ≡ 64) where
-    long : sweepRefusal levels n ≡ lowest (countIf (badCount (Levels n)) ∷ opacityIf (badOpacity (Levels n) levels) ∷ [])
-    unfolding sweepRefusal
-    long = lowest-skip (lengthIf (badLevels levels)) (countIf (badCount (Levels n)) ∷ opacityIf (badOpacity (Levels n) levels) ∷ []) (ap not (eq-eqb (length levels) 64 h))
-
-    pub sweep-count : badCount (Levels n) ≡ true → 3 ≡ sweepRefusal levels n
-    sweep-count g = sym (long ∙ lowest-take (countIf (badCount (Levels n))) (opacityIf (badOpacity (Levels n) levels) ∷ []) g tt)
-
-    pub sweep-opacity : badCount (Levels n) ≡ false → badOpacity (Levels n) levels ≡ true → 5 ≡ sweepRefusal levels n
-    sweep-opacity g k =
-        sym (long ∙ lowest-skip (countIf (badCount (Levels n))) (opacityIf (badOpacity (Levels n) levels) ∷ []) g ∙ lowest-take (opacityIf (badOpacity (Levels n) levels)) [] k tt)
-
-    pub sweep-none : badCount (Levels n) ≡ false → badOpacity (Levels n) levels ≡ false → 0 ≡ sweepRefusal levels n
-    sweep-none g k =
-        sym (long ∙ lowest-skip (countIf (badCount (Levels n))) (opacityIf (badOpacity (Levels n) levels) ∷ []) g ∙ lowest-skip (opacityIf (badOpacity (Levels n) levels)) [] k ∙ lowest-empty)
-
-  pub sweep-passed : sweepRefusal levels n ≡ 0 → (1 ≤ n) × (n ≤ length levels)
-  unfolding sweepRefusal
-  sweep-passed e =
-      let p = lowest-none (lengthIf (badLevels levels)) (countIf (badCount (Levels n)) ∷ opacityIf (badOpacity (Levels n) levels) ∷ []) tt e in
-      let q = lowest-none (countIf (badCount (Levels n))) (opacityIf (badOpacity (Levels n) levels) ∷ []) tt (p .1) in
-      let r = count-range n (q .0) in
-      (r .0, omega (arith, r .1, levels-length levels (p .0)))
 
 -- ---- sums that are collected
 pub span-sums-passed : (kind : Kind) (w h : ℕ) (table : List Float) → spanSumsRefusal kind w h table ≡ 0

@@ -1,12 +1,3 @@
-pub mod Finalize
-pub mod FinalizeLaws
-pub mod FinalizeFigures
-pub mod FinalizeMeans
-pub mod Levels
-pub mod LevelLaws
-pub mod Sweep
-pub mod SweepLaws
-pub mod Swept
 pub mod Scoring
 pub mod Usual
 pub mod RunSums

@@ -3,13 +3,13 @@ use mathlib.Core.Path.{_≡_}
 use mathlib.Core.Bool.{Bool, false, not, _||_, cond}
 use mathlib.Core.List.{List, [], _∷_}
 use Prim.Native.Nat.{ℕ, _+_, _*_}
-use lib.Dec.{eqb, ltb}
-use lib.ListN.{length, take, getD}
+use lib.Dec.{eqb}
+use lib.ListN.{length, getD}
 use lib.Ieee.{Float, nan}
 use Rattle.laws.specs.PixelSums.{spanSum, pointSum}
 use Rattle.refusal.specs.Refusals.{Test, lowest, sizeIf, lengthIf, countIf, placeIf, opacityIf, badSize}
 use Rattle.refusal.specs.Lengths.{badPicture, badTable}
-use Rattle.float.specs.Within.{within, allWithin}
+use Rattle.float.specs.Within.{within}
 use lib.IntN.{ℤ}
 use Rattle.cover.specs.declared.Kind.{Kind}
 use Rattle.cover.specs.declared.Kind.the-variants.{Circle, Triangle}
@@ -17,14 +17,15 @@ use Rattle.cover.specs.Cover.{covered, badPlaces}
 use Rattle.sums.specs.declared.ShapeSums.{ShapeSums}
 use Rattle.sums.specs.Sums.{noSums, pixelSums, plus, minus}
 use Rattle.table.specs.Layout.{placeOf}
-use Rattle.score.specs.declared.Score.{Score}
+use Rattle.grade.specs.declared.Score.{Score}
+use Rattle.grade.specs.declared.Scored.{Scored}
+use Rattle.grade.specs.Finalize.{finalized}
+use Rattle.grade.specs.Swept.{swept}
+use Rattle.grade.specs.Answered.{answered}
+use Rattle.grade.specs.AlphaSweep.{badLevels, badLevelCount, badFirstLevels}
 use Rattle.score.specs.declared.Request.{Request}
 use Rattle.score.specs.declared.Request.the-variants.{Opacity, Levels}
-use Rattle.score.specs.declared.Scored.{Scored}
-use Rattle.score.specs.declared.Scored.the-variants.{Done, Refused}
 use Rattle.score.specs.declared.Collected.{Collected}
-use Rattle.score.specs.Finalize.{finalized}
-use Rattle.score.specs.Swept.{swept}
 
 -- ---- the sums of a shape
 -- by spans: the right place minus the left, per row, from the top row down
@@ -48,21 +49,15 @@ unfoldable pub scoreAt : ShapeSums → Request → List Float → Score
 scoreAt s (Opacity a) levels = finalized s a
 scoreAt s (Levels n) levels = swept s levels n
 
--- a level count is 1 to 64
 abbrev pub badCount : Request → Bool
 badCount (Opacity a) = false
-badCount (Levels n) = ltb n 1 || ltb 64 n
+badCount (Levels n) = badLevelCount n
 
--- levels at or above the count are not looked at
 abbrev pub badOpacity : Request → List Float → Bool
 badOpacity (Opacity a) levels = not (within a)
-badOpacity (Levels n) levels = not (allWithin (take n levels))
+badOpacity (Levels n) levels = badFirstLevels levels n
 
--- the lent list of levels is exactly 64 long, also where a single opacity is asked
-abbrev pub badLevels : List Float → Bool
-badLevels levels = not (eqb (length levels) 64)
-
--- ---- the refusals
+-- ---- the refusals; the lent list of levels is exactly 64 long also where a single opacity is asked
 unfoldable pub spanRefusal : Kind → Request → List Float → ℕ → ℕ → List Float → ℕ
 spanRefusal kind request levels w h table =
     lowest
@@ -83,10 +78,6 @@ pointRefusal kind request levels w h target canvas =
     ∷ opacityIf (badOpacity request levels)
     ∷ [])
 
-unfoldable pub sweepRefusal : List Float → ℕ → ℕ
-sweepRefusal levels n =
-    lowest (lengthIf (badLevels levels) ∷ countIf (badCount (Levels n)) ∷ opacityIf (badOpacity (Levels n) levels) ∷ [])
-
 unfoldable pub spanSumsRefusal : Kind → ℕ → ℕ → List Float → ℕ
 spanSumsRefusal kind w h table = lowest (sizeIf (badSize w h) ∷ lengthIf (badTable w h (length table)) ∷ placeIf (badPlaces kind) ∷ [])
 
@@ -95,10 +86,7 @@ pointSumsRefusal kind w h target canvas =
     lowest
     (sizeIf (badSize w h) ∷ lengthIf (badPicture w h (length target) || badPicture w h (length canvas)) ∷ placeIf (badPlaces kind) ∷ [])
 
--- ---- the answers: document 01's number, or the score; sums with the number beside them, none where it is refused
-abbrev pub answered : ℕ → Score → Scored
-answered number s = cond (eqb number 0) (Done s) (Refused number)
-
+-- ---- sums with the refusal's number beside them, none where it is refused
 abbrev pub noneCollected : ℕ → Collected
 noneCollected number = record { refused = number; sums = noSums }
 
@@ -106,9 +94,6 @@ abbrev pub collected : ℕ → ShapeSums → Collected
 collected number s = cond (eqb number 0) (record { refused = 0; sums = s }) (noneCollected number)
 
 -- ---- what the calls promise; what is lent is only read
-abbrev pub AlphaSweepSays : ShapeSums → List Float → ℕ → Scored → Type 0
-AlphaSweepSays s levels n r = r ≡ answered (sweepRefusal levels n) (swept s levels n)
-
 abbrev pub CollectSpanSumsSays : Kind → ℕ → ℕ → List Float → Collected → Type 0
 CollectSpanSumsSays kind w h table r = r ≡ collected (spanSumsRefusal kind w h table) (spanSums kind w h table)
 

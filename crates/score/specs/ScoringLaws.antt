@@ -8,10 +8,8 @@ use native.Mathlib.Nat.{mul-le-mul-right}
 use native.Mathlib.Omega.{arith}
 use Rattle.refusal.specs.Refusals.{Sized}
 use native.Mathlib.Decide.{decLe}
-use borrow.Author.Tests.{lt-ltb, le-ltb, ltb-false}
-use Rattle.laws.specs.Bools.{or-left, or-right}
-use Rattle.score.specs.declared.Request.the-variants.{Levels}
-use lib.Dec.{T, ltb}
+use borrow.Author.Tests.{lt-ltb, le-ltb}
+use lib.Dec.{T}
 use lib.Ieee.{Float, nan}
 use lib.ListN.{length, getD, take, drop, length-drop}
 use lib.Seq.{getD-take, getD-drop, length-take-le}
@@ -34,14 +32,11 @@ use Rattle.laws.specs.Runs.{runsOf}
 use Rattle.sums.specs.declared.ShapeSums.{ShapeSums}
 use Rattle.sums.specs.Sums.{noSums, pixelSums, plus, minus}
 use Rattle.table.specs.Layout.{placeOf}
-use Rattle.score.specs.declared.Scored.{Scored}
+use Rattle.grade.specs.declared.Scored.{Scored}
 use Rattle.score.specs.declared.Collected.{Collected}
 use Rattle.score.specs.declared.Request.{Request}
 use Rattle.score.specs.RunSums.{runAdded, runLeft, runRight, runsAdded, pixelsAdded, pointsAdded, RunsFit, NumbersIn, Reached}
-use Rattle.score.specs.Scoring.{spanSums, pointSums, pixelAt, badCount, AlphaSweepSays, CollectSpanSumsSays, CollectPointSumsSays, SpanScoreSays, PointScoreSays, CirclePointScoreSays, TrianglePointScoreSays, CollectCircleSumsSays, CollectTriangleSumsSays}
-
-pub AlphaSweepSays-unique : (s : ShapeSums) (levels : List Float) (n : ℕ) (r q : Scored) → AlphaSweepSays s levels n r → AlphaSweepSays s levels n q → r ≡ q
-AlphaSweepSays-unique s levels n r q f g = f ∙ sym g
+use Rattle.score.specs.Scoring.{spanSums, pointSums, pixelAt, CollectSpanSumsSays, CollectPointSumsSays, SpanScoreSays, PointScoreSays, CirclePointScoreSays, TrianglePointScoreSays, CollectCircleSumsSays, CollectTriangleSumsSays}
 
 pub CollectSpanSumsSays-unique : (kind : Kind) (w h : ℕ) (table : List Float) (r q : Collected) → CollectSpanSumsSays kind w h table r → CollectSpanSumsSays kind w h table q → r ≡ q
 CollectSpanSumsSays-unique kind w h table r q f g = f ∙ sym g
@@ -73,10 +68,6 @@ CollectCircleSumsSays-unique x y z = CollectPointSumsSays-unique (Circle x y z)
 pub CollectTriangleSumsSays-unique : (a b c d e f : ℤ) (w h : ℕ) (target canvas : List Float) (r q : Collected)
     → CollectTriangleSumsSays a b c d e f w h target canvas r → CollectTriangleSumsSays a b c d e f w h target canvas q → r ≡ q
 CollectTriangleSumsSays-unique a b c d e f = CollectPointSumsSays-unique (Triangle a b c d e f)
-
--- a level count that is not refused
-pub count-range : (n : ℕ) → badCount (Levels n) ≡ false → (1 ≤ n) × (n ≤ 64)
-count-range n h = (ltb-false n 1 (or-left (ltb n 1) (ltb 64 n) h), ltb-false 64 n (or-right (ltb n 1) (ltb 64 n) h))
 
 -- ---- spans
 added-ends : (w : ℕ) (table : List Float) (y n : ℕ) (p : ℕ → Bool) (e : Ends) → Ended p n e → (s : ShapeSums)

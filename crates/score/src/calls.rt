@@ -2,13 +2,12 @@
 ghost use mathlib.Core.Path.{_≡_};
 ghost use mathlib.Core.Bool.{false};
 ghost use lib.ListN.{length};
+ghost use Rattle.grade.specs.Answered.{answered};
 ghost use Rattle.score.specs.declared.Request.the-variants.{Opacity};
 ghost use Rattle.score.specs.Scoring.{
-  answered,
   badCount,
   scoreAt,
   noneCollected,
-  AlphaSweepSays,
   CollectSpanSumsSays,
   CollectPointSumsSays,
   CollectCircleSumsSays,
@@ -20,9 +19,9 @@ ghost use Rattle.score.specs.Scoring.{
 };
 use crate::Collected;
 use crate::Request;
-use crate::Score;
-use crate::Scored;
 use cover::Kind;
+use grade::Score;
+use grade::Scored;
 use sums::ShapeSums;
 
 fn score_at(s: ShapeSums, request: Request, levels: &[f32]) -> Score
@@ -30,8 +29,8 @@ fn score_at(s: ShapeSums, request: Request, levels: &[f32]) -> Score
     ensures { λ r. ⌜ r ≡ scoreAt s request (now (levels .entry)) ⌝ }
 {
     match request {
-        Request::Opacity(a) => crate::finalize(s, a),
-        Request::Levels(n) => crate::sweep(s, levels, n),
+        Request::Opacity(a) => grade::finalize(s, a),
+        Request::Levels(n) => grade::sweep(s, levels, n),
     }
 }
 
@@ -67,10 +66,10 @@ pub fn span_score(
         let top = rows.top;
         let bottom = rows.bottom;
         if bottom <= top {
-            return Scored::Done(crate::no_score(opacity, 0));
+            return Scored::Done(grade::no_score(opacity, 0));
         }
         let sums = crate::spans::reached_sums(kind, top, bottom, w, h, table);
-        return done(crate::finalize(sums, opacity));
+        return done(grade::finalize(sums, opacity));
     }
     tested_span_score(kind, request, levels, w, h, table)
 }
@@ -142,10 +141,10 @@ pub fn circle_point_score(
         let top = rows.top;
         let bottom = rows.bottom;
         if bottom <= top {
-            return Scored::Done(crate::no_score(opacity, 0));
+            return Scored::Done(grade::no_score(opacity, 0));
         }
         let sums = crate::points::reached_sums(kind, top, bottom, w, h, target, canvas);
-        return done(crate::finalize(sums, opacity));
+        return done(grade::finalize(sums, opacity));
     }
     tested_point_score(kind, request, levels, w, h, target, canvas)
 }
@@ -182,23 +181,12 @@ pub fn triangle_point_score(
         let top = rows.top;
         let bottom = rows.bottom;
         if bottom <= top {
-            return Scored::Done(crate::no_score(opacity, 0));
+            return Scored::Done(grade::no_score(opacity, 0));
         }
         let sums = crate::points::reached_sums(kind, top, bottom, w, h, target, canvas);
-        return done(crate::finalize(sums, opacity));
+        return done(grade::finalize(sums, opacity));
     }
     tested_point_score(kind, request, levels, w, h, target, canvas)
-}
-
-// The best of the first n lent levels for sums that were collected before.
-pub fn alpha_sweep(s: ShapeSums, levels: &[f32], n: usize) -> Scored
-    ensures { λ r. ⌜ AlphaSweepSays s (now (levels .entry)) n r ⌝ }
-{
-    let no = crate::tests::sweep_refusal(levels, n);
-    if no != 0 {
-        return Scored::Refused(no);
-    }
-    Scored::Done(crate::sweep(s, levels, n))
 }
 
 // Refused: no sums.

@@ -15,7 +15,6 @@ ghost use Rattle.score.specs.Scoring.{
   badOpacity,
   spanRefusal,
   pointRefusal,
-  sweepRefusal,
   spanSumsRefusal,
   pointSumsRefusal,
 };
@@ -27,7 +26,7 @@ fn bad_count(request: Request) -> bool
 {
     match request {
         Request::Opacity(_) => false,
-        Request::Levels(n) => (n < 1) | (64 < n),
+        Request::Levels(n) => grade::sweeps::bad_level_count(n),
     }
 }
 
@@ -37,7 +36,7 @@ fn bad_opacity(request: Request, levels: &[f32]) -> bool
 {
     match request {
         Request::Opacity(a) => !float::within(a),
-        Request::Levels(n) => !float::all_within(&levels[0..n]),
+        Request::Levels(n) => grade::sweeps::bad_first_levels(levels, n),
     }
 }
 
@@ -112,21 +111,6 @@ pub(crate) fn point_refusal(
         return refusal::LENGTH;
     }
     request_refusal(kind, request, levels)
-}
-
-pub(crate) fn sweep_refusal(levels: &[f32], n: usize) -> u8
-    ensures { λ r. ⌜ r ≡ sweepRefusal (now (levels .entry)) n ⌝ }
-{
-    if levels.len() != 64 {
-        return refusal::LENGTH;
-    }
-    if bad_count(Request::Levels(n)) {
-        return refusal::COUNT;
-    }
-    if bad_opacity(Request::Levels(n), levels) {
-        return refusal::OPACITY;
-    }
-    0
 }
 
 pub(crate) fn span_sums_refusal(kind: Kind, w: usize, h: usize, table: &[f64]) -> u8

@@ -16,8 +16,8 @@ use Rattle.cover.specs.declared.Kind.{Kind}
 use Rattle.cover.specs.Cover.{covered, badPlaces}
 use Rattle.sums.specs.declared.ShapeSums.{ShapeSums}
 use Rattle.sums.specs.Sums.{noSums, plus, minus}
-use Rattle.score.specs.declared.Score.{Score}
-use Rattle.score.specs.Finalize.{finalized}
+use Rattle.grade.specs.declared.Score.{Score}
+use Rattle.grade.specs.Finalize.{finalized}
 use Rattle.score.specs.Scoring.{pixelAt}
 use Rattle.picture.specs.Pixels.{filled, totalOf}
 use Rattle.picture.specs.Painting.{painted}

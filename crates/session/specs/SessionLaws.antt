@@ -17,11 +17,12 @@ use Rattle.refusal.specs.RefusalLaws.{lowest-skip, lowest-take, lowest-empty, l
 use Rattle.float.specs.Within.{nought, within, allWithin}
 use Rattle.cover.specs.declared.Kind.{Kind}
 use Rattle.cover.specs.Cover.{badPlaces}
-use Rattle.score.specs.declared.Score.{Score}
-use Rattle.score.specs.declared.Scored as scores
-use Rattle.score.specs.declared.Scored.the-variants as scored
-use Rattle.score.specs.Finalize.{finalized}
-use Rattle.score.specs.Scoring.{spanSums, answered}
+use Rattle.grade.specs.declared.Score.{Score}
+use Rattle.grade.specs.declared.Scored as scores
+use Rattle.grade.specs.declared.Scored.the-variants as scored
+use Rattle.grade.specs.Finalize.{finalized}
+use Rattle.grade.specs.Answered.{answered}
+use Rattle.score.specs.Scoring.{spanSums}
 use Rattle.picture.specs.Pixels.{filled, totalOf}
 use Rattle.picture.specs.Painting.{painted}
 use Rattle.lines.specs.Hex.{malformed}

@@ -38,11 +38,13 @@ use Rattle.table.specs.Table.{Table, Updated, redone, badLengths, buildRefusal,
 use Rattle.table.specs.TestLaws.{build-after}
 use Rattle.table.specs.TableLaws.{update-fresh}
 use Rattle.table.specs.ReadLaws.{table-place}
-use Rattle.score.specs.declared.Scored.{Scored}
-use Rattle.score.specs.declared.Score.{Score}
+use Rattle.grade.specs.declared.Scored.{Scored}
+use Rattle.grade.specs.declared.Score.{Score}
 use Rattle.score.specs.declared.Request.the-variants.{Opacity}
-use Rattle.score.specs.Finalize.{finalized}
-use Rattle.score.specs.Scoring.{spanSums, pixelAt, spanRefusal, scoreAt, answered, badLevels}
+use Rattle.grade.specs.Finalize.{finalized}
+use Rattle.grade.specs.Answered.{answered}
+use Rattle.grade.specs.AlphaSweep.{badLevels}
+use Rattle.score.specs.Scoring.{spanSums, pixelAt, spanRefusal, scoreAt}
 use Rattle.picture.specs.Painting.{painted}
 use Rattle.picture.specs.PaintingLaws.{painted-spares, length-painted}
 use Rattle.picture.specs.Pixels.{badColour, filled}

@@ -10,11 +10,11 @@ ghost use Rattle.session.specs.Held.{Holds, stepped, StepTakes, StepSays
 use cover::Kind;
 use frame::Answer;
 use frame::Values;
+use grade::Score;
+use grade::Scored;
 use held::Request;
 use held::State;
 use lines::MALFORMED;
-use score::Score;
-use score::Scored;
 
 mod sheet;
 

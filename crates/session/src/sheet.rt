@@ -9,16 +9,17 @@ ghost use Rattle.laws.specs.Rows.{putRow};
 ghost use Rattle.refusal.specs.Refusals.{lowest, placeIf, opacityIf};
 ghost use Rattle.float.specs.Within.{nought, within, allWithin};
 ghost use Rattle.cover.specs.Cover.{badPlaces};
-ghost use Rattle.score.specs.Finalize.{finalized};
-ghost use Rattle.score.specs.Scoring.{spanSums, answered};
+ghost use Rattle.grade.specs.Finalize.{finalized};
+ghost use Rattle.grade.specs.Answered.{answered};
+ghost use Rattle.score.specs.Scoring.{spanSums};
 ghost use Rattle.picture.specs.Pixels.{filled, totalOf};
 ghost use Rattle.picture.specs.Painting.{painted};
 ghost use Rattle.session.specs.Session.{channel};
 ghost use Rattle.session.specs.Held.{Sides, Sheet};
 use cover::Kind;
+use grade::Score;
+use grade::Scored;
 use score::Request;
-use score::Score;
-use score::Scored;
 
 // A byte as a channel.
 fn channel(b: u8) -> f32

@@ -1,8 +1,9 @@
 -- What `alpha_sweep` promises, as C has it.
 use mathlib.Core.Path.{_∙_, ap}
 use Rattle.sums.specs.declared.ShapeSums.{ShapeSums}
-use Rattle.score.specs.Scoring.{answered, sweepRefusal}
-use Rattle.score.specs.Swept.{swept}
+use Rattle.grade.specs.Answered.{answered}
+use Rattle.grade.specs.AlphaSweep.{sweepRefusal}
+use Rattle.grade.specs.Swept.{swept}
 use Rattle.probe_score.specs.Probes.{answerOf}
 use borrow.Author.Needs.{needs}
 use Rattle.probe_score.proofs.probe_alpha_sweep.Statement.{statement}

@@ -1,7 +1,7 @@
 -- What `finalize` promises, as C has it.
 use mathlib.Core.Path.{_∙_, ap}
 use Rattle.sums.specs.declared.ShapeSums.{ShapeSums}
-use Rattle.score.specs.Finalize.{finalized}
+use Rattle.grade.specs.Finalize.{finalized}
 use Rattle.probe_score.specs.Probes.{scoreOf}
 use borrow.Author.Needs.{needs}
 use Rattle.probe_score.proofs.probe_finalize.Statement.{statement}

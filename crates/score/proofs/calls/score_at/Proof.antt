@@ -2,7 +2,7 @@
 use mathlib.Core.Path.{_≡_, sym, _∙_, ap}
 use Rattle.score.specs.declared.Request.{Request}
 use Rattle.score.specs.Scoring.{badCount, scoreAt}
-use Rattle.score.specs.ScoringLaws.{count-range}
+use Rattle.grade.specs.AlphaSweepLaws.{count-range}
 use native.Mathlib.Omega.{arith}
 use borrow.Author.Needs.{needs}
 use Rattle.score.proofs.calls.score_at.Statement.{statement}

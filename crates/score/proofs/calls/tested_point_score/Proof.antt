@@ -8,8 +8,11 @@ use Rattle.refusal.specs.RefusalLaws.{sized}
 use Rattle.refusal.specs.Lengths.{badPicture}
 use Rattle.cover.specs.Cover.{badPlaces}
 use Rattle.sums.specs.declared.ShapeSums.{ShapeSums}
-use Rattle.score.specs.Scoring.{badCount, badOpacity, badLevels, pointRefusal, scoreAt, pointSums}
-use Rattle.score.specs.CallLaws.{Passed, point-passed, levels-length, picture-lengths, answered-refused, answered-done}
+use Rattle.grade.specs.AlphaSweep.{badLevels}
+use Rattle.score.specs.Scoring.{badCount, badOpacity, pointRefusal, scoreAt, pointSums}
+use Rattle.grade.specs.AnsweredLaws.{answered-refused, answered-done}
+use Rattle.grade.specs.AlphaSweepLaws.{levels-length}
+use Rattle.score.specs.CallLaws.{Passed, point-passed, picture-lengths}
 use native.Mathlib.Omega.{arith}
 use borrow.Author.Needs.{needs}
 use Rattle.score.proofs.calls.tested_point_score.Statement.{statement}

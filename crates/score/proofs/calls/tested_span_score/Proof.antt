@@ -8,8 +8,11 @@ use Rattle.refusal.specs.RefusalLaws.{sized}
 use Rattle.refusal.specs.Lengths.{badTable}
 use Rattle.cover.specs.Cover.{badPlaces}
 use Rattle.sums.specs.declared.ShapeSums.{ShapeSums}
-use Rattle.score.specs.Scoring.{badCount, badOpacity, badLevels, spanRefusal, scoreAt, spanSums}
-use Rattle.score.specs.CallLaws.{Passed, span-passed, levels-length, table-length, answered-refused, answered-done}
+use Rattle.grade.specs.AlphaSweep.{badLevels}
+use Rattle.score.specs.Scoring.{badCount, badOpacity, spanRefusal, scoreAt, spanSums}
+use Rattle.grade.specs.AnsweredLaws.{answered-refused, answered-done}
+use Rattle.grade.specs.AlphaSweepLaws.{levels-length}
+use Rattle.score.specs.CallLaws.{Passed, span-passed, table-length}
 use native.Mathlib.Omega.{arith}
 use borrow.Author.Needs.{needs}
 use Rattle.score.proofs.calls.tested_span_score.Statement.{statement}

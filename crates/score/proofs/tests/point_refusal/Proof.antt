@@ -8,7 +8,8 @@ use Rattle.refusal.specs.Refusals.{countIf, placeIf, opacityIf, badSize}
 use Rattle.refusal.specs.RefusalLaws.{sized}
 use Rattle.refusal.specs.Lengths.{badPicture}
 use Rattle.cover.specs.Cover.{badPlaces}
-use Rattle.score.specs.Scoring.{badCount, badOpacity, badLevels, pointRefusal}
+use Rattle.grade.specs.AlphaSweep.{badLevels}
+use Rattle.score.specs.Scoring.{badCount, badOpacity, pointRefusal}
 use Rattle.score.specs.CallLaws.{size-first, length-next, others-next, or-first, or-second, or-neither}
 use native.Mathlib.Omega.{arith}
 use borrow.Author.Needs.{needs}

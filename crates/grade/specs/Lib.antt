@@ -1,0 +1,13 @@
+pub mod Finalize
+pub mod FinalizeLaws
+pub mod FinalizeFigures
+pub mod FinalizeMeans
+pub mod Levels
+pub mod LevelLaws
+pub mod Sweep
+pub mod SweepLaws
+pub mod Swept
+pub mod Answered
+pub mod AnsweredLaws
+pub mod AlphaSweep
+pub mod AlphaSweepLaws

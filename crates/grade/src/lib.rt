@@ -1,0 +1,206 @@
+// Scores from sums alone: what drawing a shape over the canvas changes, at one opacity or at the best of some levels.
+ghost use mathlib.Core.Path.{_≡_};
+ghost use Prim.Native.Nat.{_<_, _≤_};
+ghost use lib.ListN.{length};
+ghost use Rattle.grade.specs.Finalize.{
+  errorBefore,
+  colourOf,
+  errorAfter,
+  rest,
+  overChannels,
+  countOf,
+  colourAt,
+  beforeAt,
+  afterAt,
+  finalized,
+  NoScoreSays,
+  FinalizeSays,
+};
+ghost use Rattle.grade.specs.Swept.{SweepSays};
+use sums::ShapeSums;
+
+pub mod levels;
+pub mod sweeps;
+
+// A shape's score: the opacity it was scored at, how many pixels it covers, the change of the squared error, its colour.
+pub struct Score {
+    pub opacity: f32,
+    pub count: u32,
+    pub change: f32,
+    pub red: f32,
+    pub green: f32,
+    pub blue: f32,
+}
+
+// A score, or the number of the refusal.
+pub enum Scored {
+    Done(Score),
+    Refused(u8),
+}
+
+fn error_before(tt: f64, tc: f64, cc: f64) -> f64
+    ensures { λ r. ⌜ r ≡ errorBefore tt tc cc ⌝ }
+{
+    tt - 2.0 * tc + cc
+}
+
+fn colour(t: f64, c: f64, m: f64, denom: f64) -> f32
+    ensures { λ r. ⌜ r ≡ colourOf t c m denom ⌝ }
+{
+    if denom > 0.0 {
+        return float::narrow01((t - m * c) / denom);
+    }
+    0.0
+}
+
+fn error_after(tt: f64, tc: f64, cc: f64, t: f64, c: f64, a: f64, m: f64, p: f64, n: f64) -> f64
+    ensures { λ r. ⌜ r ≡ errorAfter tt tc cc t c a m p n ⌝ }
+{
+    tt - 2.0 * m * tc + m * m * cc - 2.0 * a * p * t + 2.0 * a * m * p * c + a * a * p * p * n
+}
+
+// Change +0 and colour 0.
+pub fn no_score(opacity: f32, count: u32) -> Score
+    ensures { λ r. ⌜ NoScoreSays opacity count r ⌝ }
+{
+    Score {
+        opacity: opacity,
+        count: count,
+        change: 0.0,
+        red: 0.0,
+        green: 0.0,
+        blue: 0.0,
+    }
+}
+
+// What a channel's error becomes. Narrowing stands apart, so that this is inlined and what the channels share is worked out once.
+fn weigh(t: f64, c: f64, tt: f64, cc: f64, tc: f64, a: f64, m: f64, p: f32, n: f64) -> f64
+    ensures { λ r. ⌜ r ≡ errorAfter tt tc cc t c a m p n ⌝ }
+{
+    error_after(tt, tc, cc, t, c, a, m, float::widen(p), n)
+}
+
+// The errors as they are, over the channels: the same at every opacity.
+fn all_before(s: ShapeSums) -> f64
+    ensures { λ r. ⌜ r ≡ overChannels (beforeAt s) ⌝ }
+{
+    let tt = s.s_t2;
+    let cc = s.s_c2;
+    let tc = s.s_tc;
+    let first = error_before(tt[0], tc[0], cc[0]);
+    let second = error_before(tt[1], tc[1], cc[1]);
+    let third = error_before(tt[2], tc[2], cc[2]);
+    0.0 + first + second + third
+}
+
+// 1 - a, in f32, then widened.
+fn rest_of(a: f32) -> f64
+    ensures { λ r. ⌜ r ≡ rest a ⌝ }
+{
+    float::widen(1.0 - a)
+}
+
+// A channel's colour at the opacity a.
+fn colour_at(s: ShapeSums, channel: usize, a: f64, m: f64, n: f64) -> f32
+    requires channel { ⌜ channel < 3 ⌝ }
+    requires rest { ⌜ m ≡ rest a ⌝ }
+    requires pixels { ⌜ n ≡ countOf s ⌝ }
+    ensures { λ r. ⌜ r ≡ colourAt s a channel ⌝ }
+{
+    let t = s.s_t;
+    let c = s.s_c;
+    colour(t[channel], c[channel], m, a * n)
+}
+
+// The errors with the colours drawn over them, over the channels.
+fn all_after(s: ShapeSums, a: f64, m: f64, n: f64, red: f32, green: f32, blue: f32) -> f64
+    requires rest { ⌜ m ≡ rest a ⌝ }
+    requires pixels { ⌜ n ≡ countOf s ⌝ }
+    requires colours { ⌜ (red ≡ colourAt s a 0) × (green ≡ colourAt s a 1) × (blue ≡ colourAt s a 2) ⌝ }
+    ensures { λ r. ⌜ r ≡ overChannels (afterAt s a) ⌝ }
+{
+    let t = s.s_t;
+    let c = s.s_c;
+    let tt = s.s_t2;
+    let cc = s.s_c2;
+    let tc = s.s_tc;
+    let first = weigh(t[0], c[0], tt[0], cc[0], tc[0], a, m, red, n);
+    let second = weigh(t[1], c[1], tt[1], cc[1], tc[1], a, m, green, n);
+    let third = weigh(t[2], c[2], tt[2], cc[2], tc[2], a, m, blue, n);
+    0.0 + first + second + third
+}
+
+// The change and the colour at an opacity, from the sums alone: one geometry is scored at many opacities.
+pub fn finalize(s: ShapeSums, opacity: f32) -> Score
+    ensures { λ r. ⌜ FinalizeSays s opacity r ⌝ }
+{
+    finalize_from(s, opacity, all_before(s))
+}
+
+fn finalize_from(s: ShapeSums, opacity: f32, before: f64) -> Score
+    requires { ⌜ before ≡ overChannels (beforeAt s) ⌝ }
+    ensures { λ r. ⌜ r ≡ finalized s opacity ⌝ }
+{
+    let count = s.count;
+    if count == 0 {
+        return no_score(opacity, 0);
+    }
+    let m = rest_of(opacity);
+    let a = float::widen(opacity);
+    let n = count as f64;
+    let red = colour_at(s, 0, a, m, n);
+    let green = colour_at(s, 1, a, m, n);
+    let blue = colour_at(s, 2, a, m, n);
+    let after = all_after(s, a, m, n, red, green, blue);
+    Score {
+        opacity: opacity,
+        count: count,
+        change: float::narrow(after - before),
+        red: red,
+        green: green,
+        blue: blue,
+    }
+}
+
+// The change alone, for the sweep: a number comes back in a register, a score through memory.
+fn change_from(s: ShapeSums, opacity: f32, before: f64) -> f32
+    requires { ⌜ before ≡ overChannels (beforeAt s) ⌝ }
+    ensures { λ r. ⌜ r ≡ finalized s opacity .change ⌝ }
+{
+    let count = s.count;
+    if count == 0 {
+        return 0.0;
+    }
+    let m = rest_of(opacity);
+    let a = float::widen(opacity);
+    let n = count as f64;
+    let red = colour_at(s, 0, a, m, n);
+    let green = colour_at(s, 1, a, m, n);
+    let blue = colour_at(s, 2, a, m, n);
+    let after = all_after(s, a, m, n, red, green, blue);
+    float::narrow(after - before)
+}
+
+// The first of the first n levels with the strictly smallest change. The lowest change so far starts at infinity, so
+// that a NaN is never taken. The score is worked out for the best level alone; n is no level.
+pub fn sweep(s: ShapeSums, levels: &[f32], n: usize) -> Score
+    requires { ⌜ (1 ≤ n) × (n ≤ length (now levels)) ⌝ }
+    ensures { λ r. ⌜ SweepSays s (now (levels .entry)) n r ⌝ }
+{
+    let before = all_before(s);
+    let mut best = n;
+    let mut lowest = 1.0 / 0.0;
+    let mut i = 0;
+    while i < n {
+        let change = change_from(s, levels[i], before);
+        if change < lowest {
+            lowest = change;
+            best = i;
+        }
+        i += 1;
+    }
+    if best == n {
+        return no_score(levels[0], s.count);
+    }
+    finalize_from(s, levels[best], before)
+}
