@@ -1,4 +1,4 @@
-// Answers of the published Rust's `finalize`, which the definition meets too (score/specs/FinalizeFigures): sums and opacity by their bits.
+// Answers of the published Rust's `finalize`, which the definition meets too (grade/specs/FinalizeFigures): sums and opacity by their bits.
 use sums::ShapeSums;
 
 fn three(b: [u64; 3]) -> [f64; 3] {
