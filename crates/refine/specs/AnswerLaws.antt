@@ -13,8 +13,8 @@ use Rattle.shapes.specs.declared.Candidates.{Candidates}
 use Rattle.refine.specs.declared.Refined.{Refined}
 use Rattle.shapes.specs.Lists.{listed}
 use Rattle.refine.specs.Tests.{refusalOf}
-use Rattle.refine.specs.Refinement.{Scene, Progress, drawn, refined}
-use Rattle.refine.specs.Scenes.{sceneOf}
+use Rattle.traces.specs.Refinement.{Scene, Progress, drawn, refined}
+use Rattle.traces.specs.Scenes.{sceneOf}
 use Rattle.refine.specs.Answers.{Told, told, doneWith, refusedWith, drawnOr, RefineShapesSays}
 
 pub RefineShapesSays-unique : (w h : ℕ) (red green blue : Float) (target : List Float) (shapes : Shapes) (candidates : Candidates) (passes : ℕ) (first second : List Float)

@@ -12,10 +12,10 @@ use Rattle.float.specs.Within.{nought, allWithin}
 use Rattle.picture.specs.Rows.{totalOn}
 use Rattle.picture.specs.PixelLaws.{few-pixels, filled-within}
 use Rattle.shapes.specs.declared.Shape.{Shape}
-use Rattle.refine.specs.Refinement.{paintedOn}
-use Rattle.refine.specs.Scenes.{shapePainted}
-use Rattle.refine.specs.Traces.{Traced}
-use Rattle.refine.specs.Courses.{SummedTo, Apart, Judged}
+use Rattle.traces.specs.Refinement.{paintedOn}
+use Rattle.traces.specs.Scenes.{shapePainted}
+use Rattle.traces.specs.Traces.{Traced}
+use Rattle.trials.specs.Courses.{SummedTo, Apart, Judged}
 use native.Mathlib.Omega.{arith}
 use borrow.Author.Needs.{needs}
 use Rattle.refine.proofs.courses.draw.Statement.{statement}
