@@ -12,7 +12,6 @@ use lib.Ieee.Fits.{and-l, and-r}
 use lib.ListN.{length, take, getD}
 use Rattle.laws.specs.Every.{every}
 use Rattle.laws.specs.EveryLaws.{every-append}
-use Rattle.float.specs.Within.{allWithin}
 use Rattle.refusal.specs.Refusals.{Sized}
 use Rattle.shapes.specs.declared.Shape.{Shape}
 use Rattle.shapes.specs.declared.Shapes.{Shapes}

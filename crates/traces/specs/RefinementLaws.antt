@@ -15,7 +15,7 @@ use Rattle.laws.specs.Without.{without}
 use Rattle.laws.specs.WithoutLaws.{without-seam}
 use Rattle.laws.specs.InOrder.{InOrder, done}
 use Rattle.laws.specs.InOrderLaws.{keep-last, leave-last}
-use Rattle.traces.specs.Refinement.{Scene, paintedOn, drawn, lower, Outcome, noCandidate, notLower, accepted, Trial, trial, Progress, after, next, nexts, begun, pass, passes, nothingYet, refined}
+use Rattle.traces.specs.Refinement.{Scene, paintedOn, drawn, lower, Outcome, noCandidate, notLower, accepted, trial, Progress, after, next, nexts, begun, pass, passes, nothingYet, refined}
 
 -- ---- one trial more
 pub nexts-more : {S P : Type 0} (g : Scene S P) (n : ℕ) (a : Progress S) → nexts g (suc n) a ≡ next g (nexts g n a)

@@ -31,7 +31,7 @@ use Rattle.cover.specs.Cover.{covered}
 use Rattle.cover.specs.CoverLaws.{in-run}
 use Rattle.picture.specs.Painting.{blended, painted}
 use Rattle.picture.specs.Strokes.{brushedPart, brushedRows}
-use Rattle.picture.specs.PaintingLaws.{length-rows, rows-none, rows-more, runs-within, mixed-blended, painted-within}
+use Rattle.picture.specs.PaintingLaws.{rows-none, rows-more, runs-within, mixed-blended, painted-within}
 use Rattle.shapes.specs.declared.Shape.{Shape}
 use Rattle.shapes.specs.declared.Shapes.{Shapes}
 use Rattle.shapes.specs.Blank.{blank}

@@ -20,7 +20,7 @@ use Rattle.shapes.specs.declared.Shapes.{Shapes}
 use Rattle.shapes.specs.declared.Candidate.{Candidate}
 use Rattle.shapes.specs.Lists.{listed, shapeIn, ExchangeSays}
 use Rattle.shapes.specs.Ranges.{fits}
-use Rattle.traces.specs.Refinement.{Scene, Progress, drawn, lower, notLower, accepted, after, next}
+use Rattle.traces.specs.Refinement.{Scene, Progress, drawn, lower, after}
 use Rattle.traces.specs.Scenes.{sceneWith}
 use Rattle.traces.specs.RefinementLaws.{drawn-exchanged, next-none, next-kept, next-taken}
 use Rattle.trials.specs.declared.Course.{Course}

@@ -19,12 +19,12 @@ use Rattle.shapes.specs.Lists.{listed, shapeIn, offered}
 use Rattle.shapes.specs.Ranges.{rangesOf}
 use Rattle.trials.specs.declared.Course.{Course}
 use Rattle.refine.specs.declared.Refined.{Refined}
-use Rattle.traces.specs.Refinement.{Scene, Progress, paintedOn, drawn, refined}
+use Rattle.traces.specs.Refinement.{Scene, Progress, paintedOn, refined}
 use Rattle.traces.specs.Scenes.{shapePainted, sceneOf}
 use Rattle.traces.specs.TraceLaws.{table-of}
 use Rattle.refine.specs.Tests.{lookedAt}
 use Rattle.refine.specs.TestLaws.{SizesPassed, RangesPassed, sizes-passed, ranges-passed, refusal-sizes, refusal-ranges}
-use Rattle.trials.specs.Courses.{progressOf, Aids, aidsOf, Aided, Stepped}
+use Rattle.trials.specs.Courses.{progressOf, Aids, aidsOf, Aided}
 use Rattle.trials.specs.StepLaws.{listed-length}
 use Rattle.refine.specs.Passes.{restarted}
 use Rattle.refine.specs.CourseLaws.{During, Between, during-start, during-next, between-end}

@@ -7,14 +7,11 @@ use lib.Ieee.{Float}
 use lib.ListN.{length, getD}
 use native.Mathlib.Nat.{mul-le-mul}
 use Rattle.laws.specs.RowLaws.{row-le}
-use Rattle.laws.specs.Runs.{runsOf}
-use Rattle.laws.specs.Strokes.{runLeft, runRight}
-use Rattle.cover.specs.Cover.{covered}
 use Rattle.picture.specs.Strokes.{brushedPart}
 use Rattle.picture.specs.PaintingLaws.{runs-within}
 use Rattle.shapes.specs.declared.Shape.{Shape}
 use Rattle.shapes.specs.Blank.{blank}
-use Rattle.traces.specs.Traces.{leftAt, rightAt, brushAt, Column, Traced, RowPainted}
+use Rattle.traces.specs.Traces.{leftAt, rightAt, brushAt, Column, RowPainted}
 use Rattle.traces.specs.TraceLaws.{stroke-painted, none-painted, row-within}
 use native.Mathlib.Omega.{arith}
 use borrow.Author.Needs.{needs}

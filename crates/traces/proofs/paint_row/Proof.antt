@@ -8,7 +8,7 @@ use lib.ListN.{length, getD}
 use lib.Seq.{slice}
 use Rattle.float.specs.Within.{allWithin}
 use Rattle.shapes.specs.declared.Shape.{Shape}
-use Rattle.traces.specs.Traces.{Traced, Tabled, RowPainted}
+use Rattle.traces.specs.Traces.{Traced, RowPainted}
 use Rattle.traces.specs.TraceLaws.{row-none, row-more}
 use borrow.Author.Needs.{needs}
 use native.Mathlib.Omega.{arith}

@@ -9,18 +9,14 @@ use lib.Ieee.{Float, nan, round, ofBits}
 use lib.ListN.{length, getD, take, length-append, length-replicate}
 use lib.Seq.{take-at}
 use Rattle.laws.specs.Without.{without}
-use Rattle.float.specs.Within.{nought, allWithin}
-use Rattle.cover.specs.declared.reached.Rows.{Rows}
-use Rattle.picture.specs.Pixels.{filled, totalOf}
-use Rattle.picture.specs.PixelLaws.{filled-within}
+use Rattle.float.specs.Within.{nought}
 use Rattle.shapes.specs.declared.Shape.{Shape}
 use Rattle.shapes.specs.declared.Candidate.{Candidate}
-use Rattle.shapes.specs.Blank.{blank}
 use Rattle.shapes.specs.Lists.{listed, shapeIn}
 use Rattle.shapes.specs.Ranges.{fits}
 use Rattle.trials.specs.declared.Course.{Course}
-use Rattle.traces.specs.Refinement.{Scene, paintedOn, drawn, lower}
-use Rattle.traces.specs.Scenes.{shapePainted, sceneWith}
+use Rattle.traces.specs.Refinement.{Scene, drawn, lower}
+use Rattle.traces.specs.Scenes.{sceneWith}
 use Rattle.traces.specs.Traces.{Traced}
 use Rattle.traces.specs.RefinementLaws.{drawn-exchanged}
 use Rattle.traces.specs.PartLaws.{part-on, all-on, trial-on}

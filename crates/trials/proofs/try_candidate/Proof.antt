@@ -8,25 +8,12 @@ use lib.Dec.{T}
 use lib.Ieee.{Float, nan, round, ofBits}
 use lib.ListN.{length, getD, take, length-map, length-append}
 use lib.Seq.{slice}
-use Rattle.laws.specs.Without.{without}
-use Rattle.float.specs.Within.{nought, allWithin}
-use Rattle.cover.specs.declared.reached.Rows.{Rows}
-use Rattle.picture.specs.Pixels.{filled, totalOf}
-use Rattle.picture.specs.PixelLaws.{filled-within}
-use Rattle.shapes.specs.declared.Shape.{Shape}
-use Rattle.shapes.specs.declared.Candidate.{Candidate}
-use Rattle.shapes.specs.Blank.{blank}
-use Rattle.shapes.specs.Lists.{listed, shapeIn}
-use Rattle.shapes.specs.Ranges.{fits}
-use Rattle.trials.specs.declared.Course.{Course}
-use Rattle.traces.specs.Refinement.{Scene, paintedOn, drawn, lower}
-use Rattle.traces.specs.Scenes.{shapePainted, sceneWith}
+use Rattle.shapes.specs.Lists.{listed}
 use Rattle.traces.specs.Traces.{SameColumn, brushAt, Column, Traced}
 use Rattle.traces.specs.DrawingLaws.{shape-fits}
 use Rattle.traces.specs.TraceLaws.{table-of, traced-push}
 use Rattle.trials.specs.SumLaws.{judged-trial}
 use Rattle.trials.specs.StepLaws.{listed-length}
-use Rattle.trials.specs.Courses.{SummedTo, Apart, Judged, Aided, aidsOf, CandidateFits, Held, Stepped}
 use native.Mathlib.Omega.{arith}
 use borrow.Author.Needs.{needs}
 use Rattle.trials.proofs.try_candidate.Statement.{statement}

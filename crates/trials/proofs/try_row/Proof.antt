@@ -8,17 +8,12 @@ use lib.Ieee.{Float, nan, ofBits}
 use lib.ListN.{length, getD, set, length-set}
 use lib.Seq.{slice}
 use Rattle.laws.specs.RowLaws.{row-le}
-use Rattle.float.specs.Within.{nought, allWithin}
-use Rattle.picture.specs.Rows.{totalOn}
 use Rattle.picture.specs.RowTotals.{on-same}
 use Rattle.traces.specs.DrawingLaws.{painted-on-same}
 use Rattle.trials.specs.CopyLaws.{row-ends, copied-within}
-use Rattle.picture.specs.PixelLaws.{few-pixels, filled-within}
-use Rattle.shapes.specs.declared.Shape.{Shape}
+use Rattle.picture.specs.PixelLaws.{few-pixels}
 use Rattle.traces.specs.Refinement.{paintedOn}
 use Rattle.traces.specs.Scenes.{shapePainted}
-use Rattle.traces.specs.Traces.{Traced}
-use Rattle.trials.specs.Courses.{SummedTo, Apart, Judged}
 use native.Mathlib.Omega.{arith}
 use borrow.Author.Needs.{needs}
 use Rattle.trials.proofs.try_row.Statement.{statement}

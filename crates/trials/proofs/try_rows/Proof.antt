@@ -8,15 +8,13 @@ use lib.Ieee.{Float, nan, ofBits}
 use lib.ListN.{length, getD, set, length-set}
 use lib.Seq.{slice}
 use Rattle.laws.specs.Bools.{true-is}
-use Rattle.laws.specs.RowLaws.{row-le}
 use Rattle.float.specs.Within.{nought, allWithin}
 use Rattle.picture.specs.Rows.{totalOn}
-use Rattle.picture.specs.PixelLaws.{few-pixels, filled-within}
 use Rattle.shapes.specs.declared.Shape.{Shape}
 use Rattle.traces.specs.Refinement.{paintedOn}
 use Rattle.traces.specs.Scenes.{shapePainted}
 use Rattle.traces.specs.Traces.{Traced}
-use Rattle.trials.specs.Courses.{SummedTo, Apart, Judged}
+use Rattle.trials.specs.Courses.{SummedTo, Apart}
 use Rattle.trials.specs.SumLaws.{sums-above, row-sum, sums-more, judged-early, judged-all}
 use borrow.Author.Needs.{needs}
 use native.Mathlib.Omega.{arith}

@@ -8,15 +8,11 @@ use lib.Ieee.{Float, nan, ofBits}
 use lib.ListN.{length, getD, set, length-set}
 use lib.Seq.{getD-set-same}
 use Rattle.laws.specs.RowLaws.{row-le}
-use Rattle.float.specs.Within.{nought, allWithin}
+use Rattle.float.specs.Within.{nought}
 use Rattle.picture.specs.Rows.{totalOn}
 use Rattle.picture.specs.RowTotals.{on-none}
-use Rattle.picture.specs.PixelLaws.{few-pixels, filled-within}
-use Rattle.shapes.specs.declared.Shape.{Shape}
-use Rattle.traces.specs.Refinement.{paintedOn}
-use Rattle.traces.specs.Scenes.{shapePainted}
-use Rattle.traces.specs.Traces.{Traced}
-use Rattle.trials.specs.Courses.{SummedTo, Apart, Judged}
+use Rattle.picture.specs.PixelLaws.{few-pixels}
+use Rattle.trials.specs.Courses.{SummedTo}
 use Rattle.trials.specs.SumLaws.{sums-none, row-sum, sums-more}
 use borrow.Author.Needs.{needs}
 use native.Mathlib.Omega.{arith}
