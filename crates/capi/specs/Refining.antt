@@ -13,8 +13,8 @@ use Rattle.refusal.specs.Lengths.{badPicture}
 use Rattle.picture.specs.Pixels.{filled}
 use Rattle.shapes.specs.declared.Shape.{Shape}
 use Rattle.shapes.specs.Ranges.{rangesOf, shapesIn}
-use Rattle.refine.specs.Refinement.{Scene, Progress, drawn, refined}
-use Rattle.refine.specs.Scenes.{sceneWith}
+use Rattle.traces.specs.Refinement.{Scene, Progress, drawn, refined}
+use Rattle.traces.specs.Scenes.{sceneWith}
 use Rattle.refine.specs.Tests.{sizeTests, rangeTests}
 use Rattle.crossing.specs.Crossed.{badList, shapesOf, offersOf, sizesOf, placesOf, paintsOf}
 use Rattle.capi.specs.declared.SillbadgerAnswer.{SillbadgerAnswer}

@@ -28,8 +28,8 @@ use Rattle.shapes.specs.declared.Ranges.{Ranges}
 use Rattle.shapes.specs.Lists.{listed, offered}
 use Rattle.shapes.specs.Ranges.{rangesOf, shapesIn}
 use Rattle.refine.specs.declared.Refined.{Refined}
-use Rattle.refine.specs.Refinement.{Scene, Progress, nothingYet, pass, passes, refined, drawn}
-use Rattle.refine.specs.RefinementLaws.{pass-length}
+use Rattle.traces.specs.Refinement.{Scene, Progress, nothingYet, pass, passes, refined, drawn}
+use Rattle.traces.specs.RefinementLaws.{pass-length}
 use Rattle.refine.specs.Tests.{refusalOf, sizeTests, rangeTests}
 use Rattle.refine.specs.Answers.{Told, told, doneWith, refusedWith, RefineShapesSays}
 use Rattle.capi.specs.declared.SillbadgerAnswer.{SillbadgerAnswer}

@@ -32,8 +32,8 @@ use Rattle.shapes.specs.declared.Candidates.{Candidates}
 use Rattle.shapes.specs.Lists.{listed}
 use Rattle.refine.specs.declared.Refined.{Refined}
 use Rattle.refine.specs.Tests as refine
-use Rattle.refine.specs.Refinement.{Progress, refined}
-use Rattle.refine.specs.Scenes.{sceneOf}
+use Rattle.traces.specs.Refinement.{Progress, refined}
+use Rattle.traces.specs.Scenes.{sceneOf}
 use Rattle.refine.specs.Answers.{Told, doneWith, refusedWith, RefineShapesSays}
 use Rattle.demands.specs.DemandTwo.{scored-count, span-score-counts-covered-pixels}
 

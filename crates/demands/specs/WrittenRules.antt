@@ -33,8 +33,8 @@ use Rattle.shapes.specs.declared.Candidates.{Candidates}
 use Rattle.shapes.specs.Lists.{listed}
 use Rattle.refine.specs.declared.Refined.{Refined}
 use Rattle.refine.specs.Tests as refine
-use Rattle.refine.specs.Refinement.{drawn, refined}
-use Rattle.refine.specs.Scenes.{sceneOf}
+use Rattle.traces.specs.Refinement.{drawn, refined}
+use Rattle.traces.specs.Scenes.{sceneOf}
 use Rattle.refine.specs.Answers.{RefineShapesSays}
 
 -- "Which pixels a shape covers": a pixel is in its row's run exactly if the rule covers it

@@ -1,9 +1,9 @@
 -- Laws: the steps of fill, mean and total; the difference of two values within 0..1 is a number; a filled picture, a mean; each promise has one answer.
 use mathlib.Core.Path.{_≡_, refl, sym, ap, _∙_, subst}
-use mathlib.Core.Logic.{⊎-elim}
+use mathlib.Core.Logic.{⊎-elim, _⊎_, inl, inr}
 use mathlib.Core.Bool.{Bool, true, false, not, _&&_, _||_, cond, true≢false}
 use mathlib.Core.List.{List, [], _∷_}
-use Prim.Native.Nat.{ℕ, zero, suc, _+_, _*_, _≤_, _<_}
+use Prim.Native.Nat.{ℕ, zero, suc, _+_, _-_, _*_, _/_, _%_, _≤_, _<_, min}
 use native.Mathlib.Nat.{mul-le-mul, lt-of-lt-of-le, le-of-eq}
 use native.Mathlib.Omega.{arith}
 use lib.Dec.{T, eqb}
@@ -23,6 +23,7 @@ use Rattle.laws.specs.Fill.{agree-more, agree-all}
 use Rattle.laws.specs.Index.{index-mod}
 use Rattle.laws.specs.Pictures.{plain, channelOf}
 use Rattle.laws.specs.PictureLaws.{length-list, list-number, list-every}
+use Rattle.laws.specs.StrokeLaws.{le-or-lt}
 use Rattle.float.specs.Within.{nought, number, within, allWithin}
 use Rattle.float.specs.Narrowed.{narrowed}
 use Rattle.float.specs.WithinLaws.{Says, says, within-number}
@@ -125,8 +126,37 @@ module _ (w h : ℕ) (red green blue : Float) where
       let b' : take (i * 3 + 2) l2 ≡ take (i * 3 + 2) s = rw o b in
       rw t (agree-more l2 s (i * 3 + 2) nan blue e2 (omega (arith, length-set l1 (i * 3 + 1) green, length-set l (i * 3) red)) b' (sym (filled-at i 2 k (omega arith))))
 
-  pub fill-all : (l : List Float) (i : ℕ) → length l ≡ h * w * 3 → h * w ≤ i → take (i * 3) l ≡ take (i * 3) (filled w h red green blue) → l ≡ filled w h red green blue
-  fill-all l i e k p = agree-all l (filled w h red green blue) (i * 3) (e ∙ sym length-filled) (omega (arith, length-filled)) p
+  pub fill-done : (l : List Float) (k : ℕ) → length l ≡ h * w * 3 → h * w * 3 ≤ k → take k l ≡ take k (filled w h red green blue) → l ≡ filled w h red green blue
+  fill-done l k e n p = agree-all l (filled w h red green blue) k (e ∙ sym length-filled) (omega (arith, length-filled)) p
+
+  -- numbers that are three apart, or any number of pixels, are the same
+  same-channel : (k : ℕ) → 48 ≤ k → k < h * w * 3 → getD (filled w h red green blue) (k - 48) nan ≡ getD (filled w h red green blue) k nan
+  same-channel k a b =
+      let s = filled w h red green blue in
+      let here : k ≡ k / 3 * 3 + k % 3 = omega arith in
+      let there : k - 48 ≡ (k / 3 - 16) * 3 + k % 3 = omega arith in
+      ap (λ (j : ℕ). getD s j nan) there
+      ∙ filled-at (k / 3 - 16) (k % 3) (omega arith) (omega arith)
+      ∙ sym (filled-at (k / 3) (k % 3) (omega arith) (omega arith))
+      ∙ ap (λ (j : ℕ). getD s j nan) (sym here)
+
+  -- the first pixels are written, 16 of them or all
+  pub fill-begun : (l : List Float) (i : ℕ) → length l ≡ h * w * 3 → i ≡ min (h * w) 16 → take (i * 3) l ≡ take (i * 3) (filled w h red green blue)
+      → take 48 l ≡ take 48 (filled w h red green blue)
+  fill-begun l i e m p = by (le-or-lt 16 (h * w))
+    where
+      by : ((16 ≤ h * w) ⊎ (h * w < 16)) → take 48 l ≡ take 48 (filled w h red green blue)
+      by (inl a) = let z : i * 3 ≡ 48 = omega arith in rw z at p
+      by (inr a) = ap (take 48) (fill-done l (i * 3) e (omega arith) p)
+
+  -- a number is that of 16 pixels before
+  pub fill-repeat : (l : List Float) (k : ℕ) → length l ≡ h * w * 3 → 48 ≤ k → k < h * w * 3 → take k l ≡ take k (filled w h red green blue)
+      → take (k + 1) (set l k (getD l (k - 48) nan)) ≡ take (k + 1) (filled w h red green blue)
+  fill-repeat l k e a b p =
+      let s = filled w h red green blue in
+      let before : getD l (k - 48) nan ≡ getD s (k - 48) nan
+      = sym (getD-take k l (k - 48) nan (omega arith)) ∙ ap (λ (t : List Float). getD t (k - 48) nan) p ∙ getD-take k s (k - 48) nan (omega arith) in
+      agree-more l s k nan _ (e ∙ sym length-filled) (omega arith) p (before ∙ same-channel k a b)
 
   -- a colour within 0..1 fills a picture within 0..1
   pub filled-within : badColour red green blue ≡ false → T (allWithin (filled w h red green blue))

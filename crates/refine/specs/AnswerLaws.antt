@@ -13,9 +13,9 @@ use Rattle.shapes.specs.declared.Candidates.{Candidates}
 use Rattle.refine.specs.declared.Refined.{Refined}
 use Rattle.shapes.specs.Lists.{listed}
 use Rattle.refine.specs.Tests.{refusalOf}
-use Rattle.refine.specs.Refinement.{Scene, Progress, drawn, refined}
-use Rattle.refine.specs.Scenes.{sceneOf}
-use Rattle.refine.specs.Answers.{Told, told, doneWith, refusedWith, drawnOr, RefineShapesSays}
+use Rattle.traces.specs.Refinement.{Progress, drawn, refined}
+use Rattle.traces.specs.Scenes.{sceneOf}
+use Rattle.refine.specs.Answers.{told, doneWith, refusedWith, RefineShapesSays}
 
 pub RefineShapesSays-unique : (w h : ℕ) (red green blue : Float) (target : List Float) (shapes : Shapes) (candidates : Candidates) (passes : ℕ) (first second : List Float)
     (r s : Refined) (f g a b : List Float) → RefineShapesSays w h red green blue target shapes candidates passes first second r f a

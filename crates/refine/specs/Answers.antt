@@ -12,8 +12,8 @@ use Rattle.shapes.specs.declared.Candidates.{Candidates}
 use Rattle.refine.specs.declared.Refined.{Refined}
 use Rattle.shapes.specs.Lists.{listed}
 use Rattle.refine.specs.Tests.{refusalOf}
-use Rattle.refine.specs.Refinement.{Scene, Progress, drawn, refined}
-use Rattle.refine.specs.Scenes.{sceneOf}
+use Rattle.traces.specs.Refinement.{Scene, Progress, drawn, refined}
+use Rattle.traces.specs.Scenes.{sceneOf}
 
 -- an answer as it is compared: of the list its count and the shapes below it
 pub record Told : Type 0 where

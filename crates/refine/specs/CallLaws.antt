@@ -12,7 +12,6 @@ use lib.Ieee.Fits.{and-l, and-r}
 use lib.ListN.{length, take, getD}
 use Rattle.laws.specs.Every.{every}
 use Rattle.laws.specs.EveryLaws.{every-append}
-use Rattle.float.specs.Within.{allWithin}
 use Rattle.refusal.specs.Refusals.{Sized}
 use Rattle.shapes.specs.declared.Shape.{Shape}
 use Rattle.shapes.specs.declared.Shapes.{Shapes}
@@ -22,11 +21,13 @@ use Rattle.shapes.specs.declared.Ranges.{Ranges}
 use Rattle.shapes.specs.Lists.{listed, shapeIn, offered}
 use Rattle.shapes.specs.Ranges.{fits, rangesOf, both, shapesIn}
 use Rattle.shapes.specs.RangeLaws.{both-append, shapes-more, offered-at, offered-past, fits-offered}
-use Rattle.refine.specs.declared.Course.{Course}
-use Rattle.refine.specs.Refinement.{Scene, Progress, drawn, refined}
+use Rattle.trials.specs.declared.Course.{Course}
+use Rattle.traces.specs.Refinement.{Scene, Progress, drawn, refined}
 use Rattle.refine.specs.Tests.{lookedAt}
-use Rattle.refine.specs.Courses.{Targeted, progressOf, untried, restarted, Aids, Aided, Kept, CandidateFits, Ready}
-use Rattle.refine.specs.CourseLaws.{During, Between, now-zipped, place-below, between-start, between-last, between-more, listed-length}
+use Rattle.trials.specs.Courses.{Targeted, progressOf, Aids, Aided, Kept, CandidateFits, Ready}
+use Rattle.trials.specs.StepLaws.{listed-length}
+use Rattle.refine.specs.Passes.{untried, restarted}
+use Rattle.refine.specs.CourseLaws.{During, Between, now-zipped, place-below, between-start, between-last, between-more}
 
 -- ---- the candidates looked at, one after another
 abbrev pub lookedUpTo : Shapes → List Slot → ℕ → List Shape

@@ -1,126 +1,25 @@
--- Laws: each trial and each pass of the program keeps to the rule.
+-- Laws: each pass of the program keeps to the rule.
 use mathlib.Core.Path.{_≡_, refl, sym, ap, _∙_, subst}
-use mathlib.Core.Bool.{Bool, true, false, _&&_, cond}
-use mathlib.Core.List.{List, [], _∷_, _++_}
-use mathlib.Core.Option.{Option, none, some}
-use Prim.Native.Nat.{ℕ, zero, suc, _+_, _-_, _*_, _≤_, _<_}
+use mathlib.Core.Bool.{Bool, true, false, cond}
+use mathlib.Core.List.{List}
+use Prim.Native.Nat.{ℕ, suc, _+_, _-_, _*_, _≤_, _<_}
 use native.Mathlib.Numerals.{add-one}
 use native.Mathlib.Omega.{arith}
 use borrow.Author.Tests.{ltb-true, ltb-false}
 use lib.Dec.{T, ltb}
 use lib.Ieee.{Float}
-use lib.Ieee.Fits.{and-i}
-use lib.ListN.{length, take, drop}
-use lib.Seq.{take-append-le, length-take-le}
-use Rattle.laws.specs.Every.{every}
-use Rattle.laws.specs.EveryLaws.{every-append, every-take, every-drop}
-use Rattle.laws.specs.Without.{without}
-use Rattle.laws.specs.WithoutLaws.{length-without, take-without}
+use lib.ListN.{length}
 use Rattle.float.specs.Within.{allWithin}
 use Rattle.shapes.specs.declared.Shape.{Shape}
-use Rattle.shapes.specs.declared.Shapes.{Shapes}
-use Rattle.shapes.specs.Lists.{listed, ExchangeSays}
-use Rattle.shapes.specs.Ranges.{fits}
-use Rattle.refine.specs.declared.Course.{Course}
-use Rattle.refine.specs.Refinement.{Scene, Progress, paintedOn, drawn, lower, noCandidate, notLower, accepted, after, next, nexts, begun, pass, passes, nothingYet, refined}
-use Rattle.refine.specs.Courses.{progressOf, risen, taken, restarted, Aids, Kept, Held, Stepped}
-use Rattle.refine.specs.RefinementLaws.{nexts-more, Zipped, zipped, zip-place, passes-last, passes-more, refined-short, refined-long, drawn-exchanged, next-none, next-kept, next-taken}
-
-every-without : (p : Shape → Bool) (j : ℕ) (l : List Shape) (x : Shape) → T (every p l) → T (p x) → T (every p (without j l ++ (x ∷ [])))
-unfolding without every
-every-without p j l x h k =
-    subst T (sym (every-append p (take j l ++ drop (suc j) l) (x ∷ []) ∙ ap (λ (b : Bool). b && every p (x ∷ [])) (every-append p (take j l) (drop (suc j) l))))
-    (and-i (every p (take j l) && every p (drop (suc j) l)) (every p (x ∷ [])) (and-i (every p (take j l)) (every p (drop (suc j) l)) (every-take p j l h) (every-drop p (suc j) l h)) (and-i (p x) true k tt))
-
--- a list as long as its count
-pub listed-length : (list : Shapes) → list .count ≤ 64 → length (list .items) ≡ 64 → length (listed list) ≡ list .count
-listed-length list few long = length-take-le (list .count) (list .items) (omega arith)
+use Rattle.shapes.specs.Lists.{listed}
+use Rattle.traces.specs.Refinement.{Scene, Progress, paintedOn, next, nexts, begun, pass, passes, nothingYet, refined}
+use Rattle.traces.specs.RefinementLaws.{nexts-more, Zipped, zipped, zip-place, passes-last, passes-more, refined-short, refined-long}
+use Rattle.trials.specs.declared.Course.{Course}
+use Rattle.trials.specs.Courses.{progressOf, Aids, Kept, Held, Stepped}
+use Rattle.trials.specs.StepLaws.{kept-length}
+use Rattle.refine.specs.Passes.{restarted}
 
 module _ (g : Scene Shape (List Float)) (size : ℕ) (q : List Shape → Aids → Type 0) where
-  kept-length : (c : Course) (first : List Float) (aids : Aids) → Kept g size q c first aids → length (listed (c .list)) ≡ c .list .count
-  kept-length c first aids k = listed-length (c .list) (k .few) (k .long)
-
-  -- ---- one trial
-  module _ (c : Course) (first : List Float) (aids : Aids) (d : Held g size q c first aids) where
-    -- without a candidate
-    pub stepped-none : g .candidate (c .trials) ≡ none → Stepped g size q c (risen c (c .made)) first aids
-    unfolding after
-    stepped-none e = record {
-      held = record {
-        kept = record {
-          few = d .kept .few;
-          long = d .kept .long;
-          fitting = d .kept .fitting;
-          total = d .kept .total;
-          served = d .kept .served;
-          first-long = d .kept .first-long;
-        };
-        behind = omega (arith, d .behind);
-        some-drawn = d .some-drawn;
-        inside = d .inside;
-      };
-      same-count = refl;
-      at = sym (next-none g (progressOf c) e);
-    }
-
-    module _ (x : Shape) (new : Float) (first′ : List Float) (aids′ : Aids) (o : g .candidate (c .trials) ≡ some x)
-        (e : new ≡ g .total (g .paint x (drawn g (without (c .place) (listed (c .list)))))) (f : first′ ≡ drawn g (take (c .place) (listed (c .list))))
-        (first-size : length first′ ≡ size) (inside : T (allWithin first′)) where
-      -- a candidate that is not lower by enough
-      pub stepped-kept : q (listed (c .list)) aids′ → lower new (c .old) ≡ false → Stepped g size q c (risen c (c .place)) first′ aids′
-      unfolding after
-      stepped-kept u l = record {
-        held = record {
-          kept = record {
-            few = d .kept .few;
-            long = d .kept .long;
-            fitting = d .kept .fitting;
-            total = d .kept .total;
-            served = u;
-            first-long = first-size;
-          };
-          behind = omega arith;
-          some-drawn = f;
-          inside = inside;
-        };
-        same-count = refl;
-        at = sym (next-kept g (progressOf c) x (c .old) new o (d .kept .total) e l);
-      }
-
-      -- an accepted one
-      pub stepped-taken : (list′ : Shapes) → q (listed list′) aids′ → lower new (c .old) ≡ true → T (fits x) → c .place < c .list .count → ExchangeSays (c .list) (c .place) x list′
-          → Stepped g size q c (taken c list′ new) first′ aids′
-      unfolding after
-      stepped-taken list′ u l f-x h s =
-          let j = c .place in
-          let m = listed (c .list) in
-          let below : j < length m = omega (arith, kept-length c first aids (d .kept)) in
-          record {
-            held = record {
-              kept = record {
-                few = omega (arith, s .0, d .kept .few);
-                long = s .1;
-                fitting = subst (λ (l : List Shape). T (every fits l)) (sym (s .2)) (every-without fits j m x (d .kept .fitting) f-x);
-                total = e ∙ ap (g .total) (sym (drawn-exchanged g m j x) ∙ ap (drawn g) (sym (s .2)));
-                served = u;
-                first-long = first-size;
-              };
-              behind = omega arith;
-              some-drawn =
-                  f
-                  ∙ ap (drawn g)
-                  (sym
-                  (ap (take j) (s .2)
-                  ∙ take-append-le j (without j m) (x ∷ []) (omega (arith, length-without j m below))
-                  ∙ take-without j j m (omega arith) (omega arith)));
-              inside = inside;
-            };
-            same-count = s .0;
-            at =
-                ap (λ (k : List Shape). record { list = k; place = j; passes = c .passes; trials = c .trials + 1; acceptances = c .acceptances + 1 }) (s .2)
-                ∙ sym (next-taken g (progressOf c) x (c .old) new o (d .kept .total) e l);
-          }
-
   -- ---- the trials of a pass over n shapes
   module _ (n : ℕ) where
     -- after i trials of the pass that began at b
@@ -145,7 +44,7 @@ module _ (g : Scene Shape (List Float)) (size : ℕ) (q : List Shape → Aids �
       now-zipped = subst (λ (a : Progress Shape). Zipped b i a) (sym (d .at)) (zipped g b b-place i (omega (arith, b-length, d .inside)))
 
       pub place-below : i < n → c .place < c .list .count
-      place-below h = omega (arith, zip-place now-zipped (omega (arith, b-length)), kept-length c first aids (d .held .kept))
+      place-below h = omega (arith, zip-place now-zipped (omega (arith, b-length)), kept-length g size q c first aids (d .held .kept))
 
     pub during-next : (b : Progress Shape) (i : ℕ) (c r : Course) (first : List Float) (aids : Aids) (first′ : List Float) (aids′ : Aids) → During b i c first aids → i < n → Stepped g size q c r first′ aids′
         → During b (i + 1) r first′ aids′
@@ -188,10 +87,10 @@ module _ (g : Scene Shape (List Float)) (size : ℕ) (q : List Shape → Aids �
           by : (b : Bool) → ltb n 2 ≡ b → Between (refined g p (listed (c .list))) limit c first aids
           by true t =
               nearly limit 0 (e ∙ ap (λ (b : Bool). cond b 0 p) t) (omega arith)
-              (sym (refined-short g p (listed (c .list)) (omega (arith, ltb-true n 2 t, kept-length c first aids k))))
+              (sym (refined-short g p (listed (c .list)) (omega (arith, ltb-true n 2 t, kept-length g size q c first aids k))))
           by false t =
               nearly limit p (e ∙ ap (λ (b : Bool). cond b 0 p) t) p-few
-              (sym (refined-long g p (listed (c .list)) (omega (arith, ltb-false n 2 t, kept-length c first aids k))))
+              (sym (refined-long g p (listed (c .list)) (omega (arith, ltb-false n 2 t, kept-length g size q c first aids k))))
 
     module _ (end : Progress Shape) (limit : ℕ) (c : Course) (first : List Float) (aids : Aids) (s : Between end limit c first aids) (h : c .passes < limit) where
       -- a pass begins over the background
@@ -221,10 +120,10 @@ module _ (g : Scene Shape (List Float)) (size : ℕ) (q : List Shape → Aids �
       module _ (i : ℕ) (r : Course) (first′ : List Float) (aids′ : Aids) (d : During (progressOf (restarted c)) i r first′ aids′) (all : n ≤ i) where
         one-pass : progressOf r ≡ pass g (progressOf c)
         unfolding pass begun
-        one-pass = d .at ∙ ap (λ (m : ℕ). nexts g m (progressOf (restarted c))) {x = i} {y = length (listed (c .list))} (omega (arith, d .inside, s .count, kept-length c first aids (s .kept)))
+        one-pass = d .at ∙ ap (λ (m : ℕ). nexts g m (progressOf (restarted c))) {x = i} {y = length (listed (c .list))} (omega (arith, d .inside, s .count, kept-length g size q c first aids (s .kept)))
 
         counted : Zipped (progressOf (restarted c)) i (progressOf r)
-        counted = now-zipped (progressOf (restarted c)) refl (kept-length c first aids (s .kept) ∙ s .count) i r first′ aids′ d
+        counted = now-zipped (progressOf (restarted c)) refl (kept-length g size q c first aids (s .kept) ∙ s .count) i r first′ aids′ d
 
         one-less : limit - c .passes ≡ suc (limit - r .passes)
         one-less = omega (arith, counted .passes)

@@ -12,14 +12,15 @@ ghost use Rattle.refusal.specs.Refusals.{Sized};
 ghost use Rattle.picture.specs.Pixels.{badColour, filled, totalOf};
 ghost use Rattle.shapes.specs.declared.Shape.{Shape};
 ghost use Rattle.shapes.specs.Lists.{listed, shapeIn};
-ghost use Rattle.refine.specs.Refinement.{paintedOn};
-ghost use Rattle.refine.specs.Scenes.{shapePainted};
-ghost use Rattle.refine.specs.Traces.{Traced, Tabled};
-ghost use Rattle.refine.specs.Courses.{Drawable, Targeted, SummedTo, untried, restarted, answered, aidsOf, Aided};
-use crate::Course;
+ghost use Rattle.traces.specs.Refinement.{paintedOn};
+ghost use Rattle.traces.specs.Scenes.{shapePainted};
+ghost use Rattle.traces.specs.Traces.{Drawable, Traced, Tabled};
+ghost use Rattle.trials.specs.Courses.{Targeted, SummedTo, aidsOf, Aided};
+ghost use Rattle.refine.specs.Passes.{untried, restarted, answered};
 use crate::Refined;
 use shapes::Candidate;
 use shapes::Shapes;
+use trials::Course;
 
 // ---- pictures
 
@@ -39,7 +40,7 @@ fn draw(
     ensures { λ _. ⌜ T (allWithin (now (canvas .exit))) × ((l : List Shape) → Traced w h l (now (runs .entry)) (now (paints .entry)) → n ≤ length l → now (canvas .exit) ≡ paintedOn (shapePainted w h) (filled w h red green blue) (slice 0 n l)) ⌝ }
 {
     picture::fill(w, h, red, green, blue, canvas);
-    crate::traces::paint_all(w, h, 0, n, runs, paints, canvas);
+    traces::paint_all(w, h, 0, n, runs, paints, canvas);
 }
 
 // The sums of a picture, row by row.
@@ -79,7 +80,7 @@ pub(crate) fn start(
     ensures { λ r. ⌜ (r ≡ untried list (totalOf (now (target .entry)) (paintedOn (shapePainted w h) (filled w h red green blue) (listed list))))
         × Aided w h (now (target .entry)) (filled w h red green blue) (listed list) (aidsOf (now (second .exit)) (now (sums .exit)) (now (runs .exit)) (now (paints .exit))) ⌝ }
 {
-    crate::traces::trace_list(w, h, list, runs, paints);
+    traces::trace_list(w, h, list, runs, paints);
     picture::fill(w, h, red, green, blue, second);
     draw(w, h, red, green, blue, list.count, runs, paints, first);
     sum_rows(w, h, target, first, sums);

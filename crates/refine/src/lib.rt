@@ -6,8 +6,6 @@ use shapes::Shapes;
 
 pub(crate) mod courses;
 pub(crate) mod tests;
-pub(crate) mod traces;
-pub(crate) mod trials;
 
 // What refinement answers. Refused: the number, the list as handed in, and all else 0.
 pub struct Refined {
@@ -16,18 +14,6 @@ pub struct Refined {
     pub passes: usize,
     pub trials: usize,
     pub acceptances: usize,
-}
-
-// How far refinement has come: the list, the place j of the next trial and the three counts of the answer; how many shapes the
-// first work picture has, and the total of the whole list.
-struct Course {
-    list: Shapes,
-    place: usize,
-    passes: usize,
-    trials: usize,
-    acceptances: usize,
-    made: usize,
-    old: f64,
 }
 
 // The list as handed in, all else zero.

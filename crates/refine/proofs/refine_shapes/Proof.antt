@@ -17,15 +17,17 @@ use Rattle.shapes.specs.declared.Slot.{Slot}
 use Rattle.shapes.specs.declared.Candidate.the-variants as candidate
 use Rattle.shapes.specs.Lists.{listed, shapeIn, offered}
 use Rattle.shapes.specs.Ranges.{rangesOf}
-use Rattle.refine.specs.declared.Course.{Course}
+use Rattle.trials.specs.declared.Course.{Course}
 use Rattle.refine.specs.declared.Refined.{Refined}
-use Rattle.refine.specs.Refinement.{Scene, Progress, paintedOn, drawn, refined}
-use Rattle.refine.specs.Scenes.{shapePainted, sceneOf}
-use Rattle.refine.specs.TraceLaws.{table-of}
+use Rattle.traces.specs.Refinement.{Scene, Progress, paintedOn, refined}
+use Rattle.traces.specs.Scenes.{shapePainted, sceneOf}
+use Rattle.traces.specs.TraceLaws.{table-of}
 use Rattle.refine.specs.Tests.{lookedAt}
 use Rattle.refine.specs.TestLaws.{SizesPassed, RangesPassed, sizes-passed, ranges-passed, refusal-sizes, refusal-ranges}
-use Rattle.refine.specs.Courses.{progressOf, restarted, Aids, aidsOf, Aided, Stepped}
-use Rattle.refine.specs.CourseLaws.{During, Between, listed-length, during-start, during-next, between-end}
+use Rattle.trials.specs.Courses.{progressOf, Aids, aidsOf, Aided}
+use Rattle.trials.specs.StepLaws.{listed-length}
+use Rattle.refine.specs.Passes.{restarted}
+use Rattle.refine.specs.CourseLaws.{During, Between, during-start, during-next, between-end}
 use Rattle.refine.specs.CallLaws.{lookedUpTo, look-none, look-more, list-fits, offers-fit, offer-at, offer-fits, started, trial-below, ready, onward, fewer}
 use Rattle.refine.specs.AnswerLaws.{done-says, refused-says}
 use Rattle.refine.proofs.refine_shapes.Statement.{statement}

@@ -7,15 +7,10 @@ use lib.Dec.{T}
 use lib.Ieee.{Float, nan, ofBits}
 use lib.ListN.{length, getD, set, length-set}
 use lib.Seq.{slice}
-use Rattle.laws.specs.RowLaws.{row-le}
-use Rattle.float.specs.Within.{nought, allWithin}
-use Rattle.picture.specs.Rows.{totalOn}
-use Rattle.picture.specs.PixelLaws.{few-pixels, filled-within}
-use Rattle.shapes.specs.declared.Shape.{Shape}
-use Rattle.refine.specs.Refinement.{paintedOn}
-use Rattle.refine.specs.Scenes.{shapePainted}
-use Rattle.refine.specs.Traces.{Traced}
-use Rattle.refine.specs.Courses.{SummedTo, Apart, Judged}
+use Rattle.float.specs.Within.{allWithin}
+use Rattle.picture.specs.PixelLaws.{filled-within}
+use Rattle.traces.specs.Refinement.{paintedOn}
+use Rattle.traces.specs.Scenes.{shapePainted}
 use native.Mathlib.Omega.{arith}
 use borrow.Author.Needs.{needs}
 use Rattle.refine.proofs.courses.draw.Statement.{statement}

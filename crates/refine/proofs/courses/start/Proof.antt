@@ -8,24 +8,17 @@ use lib.Dec.{T}
 use lib.Ieee.{Float, nan, round, ofBits}
 use lib.ListN.{length, getD, take, length-map}
 use lib.Seq.{slice, take-take}
-use Rattle.refine.specs.SumLaws.{sums-last}
-use Rattle.refine.specs.TraceLaws.{table-of}
-use Rattle.refine.specs.CourseLaws.{listed-length}
-use Rattle.laws.specs.Without.{without}
-use Rattle.float.specs.Within.{nought, allWithin}
-use Rattle.cover.specs.declared.reached.Rows.{Rows}
-use Rattle.picture.specs.Pixels.{filled, totalOf}
+use Rattle.trials.specs.SumLaws.{sums-last}
+use Rattle.traces.specs.TraceLaws.{table-of}
+use Rattle.trials.specs.StepLaws.{listed-length}
+use Rattle.float.specs.Within.{allWithin}
+use Rattle.picture.specs.Pixels.{filled}
 use Rattle.picture.specs.PixelLaws.{filled-within}
-use Rattle.shapes.specs.declared.Shape.{Shape}
-use Rattle.shapes.specs.declared.Candidate.{Candidate}
-use Rattle.shapes.specs.Blank.{blank}
-use Rattle.shapes.specs.Lists.{listed, shapeIn}
-use Rattle.shapes.specs.Ranges.{fits}
-use Rattle.refine.specs.declared.Course.{Course}
-use Rattle.refine.specs.Refinement.{Scene, paintedOn, drawn, lower}
-use Rattle.refine.specs.Scenes.{shapePainted, sceneWith}
-use Rattle.refine.specs.Traces.{Traced}
-use Rattle.refine.specs.Courses.{SummedTo, Apart, Judged, untried, Aided, aidsOf, CandidateFits, Held, Stepped}
+use Rattle.shapes.specs.Lists.{listed}
+use Rattle.traces.specs.Refinement.{paintedOn}
+use Rattle.traces.specs.Scenes.{shapePainted}
+use Rattle.trials.specs.Courses.{SummedTo}
+use Rattle.refine.specs.Passes.{untried}
 use native.Mathlib.Omega.{arith}
 use borrow.Author.Needs.{needs}
 use Rattle.refine.proofs.courses.start.Statement.{statement}

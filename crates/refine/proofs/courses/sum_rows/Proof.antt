@@ -8,16 +8,12 @@ use lib.Ieee.{Float, nan, ofBits}
 use lib.ListN.{length, getD, set, length-set}
 use lib.Seq.{getD-set-same}
 use Rattle.laws.specs.RowLaws.{row-le}
-use Rattle.float.specs.Within.{nought, allWithin}
+use Rattle.float.specs.Within.{nought}
 use Rattle.picture.specs.Rows.{totalOn}
 use Rattle.picture.specs.RowTotals.{on-none}
-use Rattle.picture.specs.PixelLaws.{few-pixels, filled-within}
-use Rattle.shapes.specs.declared.Shape.{Shape}
-use Rattle.refine.specs.Refinement.{paintedOn}
-use Rattle.refine.specs.Scenes.{shapePainted}
-use Rattle.refine.specs.Traces.{Traced}
-use Rattle.refine.specs.Courses.{SummedTo, Apart, Judged}
-use Rattle.refine.specs.SumLaws.{sums-none, row-sum, sums-more}
+use Rattle.picture.specs.PixelLaws.{few-pixels}
+use Rattle.trials.specs.Courses.{SummedTo}
+use Rattle.trials.specs.SumLaws.{sums-none, row-sum, sums-more}
 use borrow.Author.Needs.{needs}
 use native.Mathlib.Omega.{arith}
 use Rattle.refine.proofs.courses.sum_rows.Statement.{statement}
