@@ -34,12 +34,12 @@ use Rattle.refusal.specs.LengthLaws.{picture-length}
 use Rattle.refusal.specs.RefusalLaws.{sized}
 use Rattle.refusal.specs.ThreeTests.{passed, two-passed, at-third, at-none}
 use Rattle.picture.specs.declared.Colour.{Colour}
-use Rattle.picture.specs.declared.Sums.{Sums}
+use Rattle.picture.specs.declared.means.Sums.{Sums}
 use Rattle.picture.specs.declared.Mean.{Mean}
 use Rattle.picture.specs.declared.Mean.the-variants as mean
 use Rattle.picture.specs.declared.Total.{Total}
 use Rattle.picture.specs.declared.Total.the-variants as total
-use Rattle.picture.specs.Pixels.{badColour, BadColourSays, filled, fillRefusal, FillSays, FilledCanvasSays, channelSum, sumsTo, channelMean, meanOf, meanRefusal, meanAnswer, MeanRgbSays, squaredDifference, totalOf, totalTo, totalRefusal, totalAnswer, SseTotalSays, TotalAnySays, TotalWithinSays}
+use Rattle.picture.specs.Pixels.{badColour, BadColourSays, filled, fillRefusal, FillSays, FilledCanvasSays, channelSum, sumsTo, channelMean, meanOf, meanRefusal, meanAnswer, MeanRgbSays, squaredDifference, totalOf, totalTo, totalRefusal, totalAnswer, SseTotalSays, TotalAnySays}
 
 -- ---- each promise has one answer
 pub BadColourSays-unique : (red green blue : Float) (r s : Bool) → BadColourSays red green blue r → BadColourSays red green blue s → r ≡ s
@@ -79,9 +79,6 @@ SseTotalSays-unique w h target canvas r s p q = sym (total-same r) ∙ ap total-
 
 pub TotalAnySays-unique : (target canvas : List Float) (r s : Float) → TotalAnySays target canvas r → TotalAnySays target canvas s → r ≡ s
 TotalAnySays-unique target canvas r s p q = p ∙ sym q
-
-pub TotalWithinSays-unique : (target canvas : List Float) (r s : Float) → TotalWithinSays target canvas r → TotalWithinSays target canvas s → r ≡ s
-TotalWithinSays-unique target canvas r s p q = p ∙ sym q
 
 not-not : (b : Bool) → not b ≡ false → T b
 not-not true e = tt

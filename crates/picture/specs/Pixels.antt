@@ -17,7 +17,7 @@ use Rattle.float.specs.Within.{nought, within, allWithin}
 use Rattle.refusal.specs.Refusals.{lowest, sizeIf, lengthIf, colourIf, pixelIf, badSize}
 use Rattle.refusal.specs.Lengths.{badPicture}
 use Rattle.picture.specs.declared.Colour.{Colour}
-use Rattle.picture.specs.declared.Sums.{Sums}
+use Rattle.picture.specs.declared.means.Sums.{Sums}
 use Rattle.picture.specs.declared.Mean.{Mean}
 use Rattle.picture.specs.declared.Mean.the-variants as mean
 use Rattle.picture.specs.declared.Total.{Total}
@@ -109,9 +109,6 @@ totalAnswer (total.Refused k) = record { number = k; value = nought; done = fals
 abbrev pub SseTotalSays : ℕ → ℕ → List Float → List Float → Total → Type 0
 SseTotalSays w h target canvas r = totalAnswer r ≡ answer (totalRefusal w h target canvas) (totalOf target canvas) nought
 
--- without the tests, for our own crates: of any numbers, and of numbers within 0..1
+-- without the tests, for our own crates: of any numbers
 abbrev pub TotalAnySays : List Float → List Float → Float → Type 0
 TotalAnySays target canvas r = r ≡ totalOf target canvas
-
-abbrev pub TotalWithinSays : List Float → List Float → Float → Type 0
-TotalWithinSays target canvas r = r ≡ totalOf target canvas

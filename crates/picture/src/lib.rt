@@ -1,41 +1,29 @@
 // Pictures: fill, mean, total, and shapes blended into them.
 ghost use mathlib.Core.Path.{_≡_};
-ghost use mathlib.Core.Bool.{false, cond, _&&_, _||_};
+ghost use mathlib.Core.Bool.{false, _||_};
 ghost use mathlib.Core.List.{[], _∷_};
-ghost use Prim.Native.Nat.{_+_, _*_, _^_, _<_, _≤_};
-ghost use lib.Dec.{T};
-ghost use lib.IntN.{pos};
-ghost use lib.Ieee.{binary64, ofInt};
-ghost use lib.ListN.{length, take};
-ghost use Rattle.laws.specs.Answer.{answer};
-ghost use Rattle.laws.specs.F32.{_⊟_};
-ghost use Rattle.laws.specs.F64.{_⊘_};
+ghost use Prim.Native.Nat.{_+_, _*_, _≤_};
+ghost use lib.ListN.{length};
 ghost use Rattle.laws.specs.Strokes.{RunsWithin};
-ghost use Rattle.float.specs.Narrowed.{narrowed};
-ghost use Rattle.float.specs.Within.{nought, number, within, allWithin};
 ghost use Rattle.refusal.specs.Refusals.{Sized, lowest, sizeIf, lengthIf, badSize};
 ghost use Rattle.refusal.specs.Lengths.{badPicture};
 ghost use Rattle.cover.specs.Cover.{badPlaces};
 ghost use Rattle.picture.specs.Painting.{BlendSays};
 ghost use Rattle.picture.specs.Strokes.{brushedPart, brushedRows, RowsWithin};
-ghost use Rattle.picture.specs.Pixels.{BadColourSays, FillSays, FilledCanvasSays, fillRefusal, MeanRgbSays, meanAnswer, meanOf, noColour, sumsTo, SseTotalSays, squaredDifference, totalAnswer, totalOf, totalTo, TotalAnySays, TotalWithinSays};
+ghost use Rattle.picture.specs.Pixels.{BadColourSays, FillSays, FilledCanvasSays, fillRefusal, MeanRgbSays, SseTotalSays, TotalAnySays};
 use brush::Brush;
 use cover::Kind;
 use cover::reached::Rows;
 
+mod means;
+mod parts;
 pub mod running;
+mod totals;
 
 pub struct Colour {
     pub red: f32,
     pub green: f32,
     pub blue: f32,
-}
-
-// The three channels' sums.
-struct Sums {
-    red: f64,
-    green: f64,
-    blue: f64,
 }
 
 pub enum Mean {
@@ -112,36 +100,6 @@ pub fn fill(w: usize, h: usize, red: f32, green: f32, blue: f32, canvas: &mut [f
     }
 }
 
-// ---- the tests of a part
-
-// All before `from` were within 0..1. The marks together show whether all are; a -0.0, or a number that is not within, makes it look
-// again. The loop has no way out, so that it is vectorised.
-fn part_within(picture: &[f32], from: usize, to: usize) -> bool
-    requires { ⌜ (from ≤ to) × (to ≤ length (now picture)) × T (allWithin (take from (now picture))) ⌝ }
-    ensures { λ r. ⌜ r ≡ allWithin (take to (now (picture .entry))) ⌝ }
-{
-    let mut seen = 0u32;
-    for k in from..to {
-        seen = seen | float::marks(picture[k]);
-    }
-    if seen < 0x8000_0000 {
-        return true;
-    }
-    each_within(picture, from, to)
-}
-
-// One by one.
-fn each_within(picture: &[f32], from: usize, to: usize) -> bool
-    requires { ⌜ (from ≤ to) × (to ≤ length (now picture)) × T (allWithin (take from (now picture))) ⌝ }
-    ensures { λ r. ⌜ r ≡ allWithin (take to (now (picture .entry))) ⌝ }
-{
-    let mut ok = true;
-    for k in from..to {
-        ok = ok & float::within(picture[k]);
-    }
-    ok
-}
-
 // ---- mean
 
 // The mean of each channel, summed in f64 in the pixels' order. Refusals: 1 size, 2 length, 7 pixel.
@@ -150,73 +108,10 @@ pub fn mean_rgb(w: usize, h: usize, target: &[f32]) -> Mean
 {
     let number = refused(w, h, target.len());
     if number == 0 {
-        mean_tested(w, h, target)
+        means::mean_tested(w, h, target)
     } else {
         Mean::Refused(number)
     }
-}
-
-// The pixels, 16 at a time: the next ones' tests are done while the additions, which may not be reordered, wait for each other. The
-// compiler knows how many a part has, so that it adds red and green as a pair; of any number it would gather a channel's numbers from
-// four pixels, which costs more than it saves.
-fn mean_tested(w: usize, h: usize, target: &[f32]) -> Mean
-    requires { ⌜ Sized w h × (length (now target) ≡ h * w * 3) ⌝ }
-    ensures { λ r. ⌜ meanAnswer r ≡ answer (cond (allWithin (now (target .entry))) 0 7) (meanOf w h (now (target .entry))) noColour ⌝ }
-{
-    let n = h * w;
-    let mut sums = Sums {
-        red: 0.0,
-        green: 0.0,
-        blue: 0.0,
-    };
-    let mut i = 0;
-    while 16 <= n - i {
-        if !part_within(target, i * 3, (i + 16) * 3) {
-            return Mean::Refused(refusal::PIXEL);
-        }
-        sums = add_pixels(sums, target, i, i + 16);
-        i += 16;
-    }
-    if !part_within(target, i * 3, n * 3) {
-        return Mean::Refused(refusal::PIXEL);
-    }
-    sums = add_pixels(sums, target, i, n);
-    Mean::Done(Colour {
-        red: share(sums.red, n),
-        green: share(sums.green, n),
-        blue: share(sums.blue, n),
-    })
-}
-
-// The sums go on from those of the pixels before `from`.
-fn add_pixels(before: Sums, target: &[f32], from: usize, to: usize) -> Sums
-    requires { ⌜ (from ≤ to) × (to * 3 ≤ length (now target)) × T (allWithin (take (to * 3) (now target))) ⌝ }
-    requires { ⌜ before ≡ sumsTo (now target) from ⌝ }
-    ensures { λ r. ⌜ r ≡ sumsTo (now (target .entry)) to ⌝ }
-{
-    let mut sums = before;
-    for i in from..to {
-        sums = add_pixel(sums, target, i);
-    }
-    sums
-}
-
-// The sums of the pixels before i, and pixel i.
-fn add_pixel(sums: Sums, target: &[f32], i: usize) -> Sums
-    requires { ⌜ (i * 3 + 3 ≤ length (now target)) × T (allWithin (take (i * 3 + 3) (now target))) ⌝ }
-    ensures { λ r. ⌜ (sums ≡ sumsTo (now (target .entry)) i → r ≡ sumsTo (now (target .entry)) (i + 1)) ⌝ }
-{
-    let red = sums.red + float::widen_number(target[i * 3]);
-    let green = sums.green + float::widen_number(target[i * 3 + 1]);
-    let blue = sums.blue + float::widen_number(target[i * 3 + 2]);
-    Sums { red, green, blue }
-}
-
-fn share(sum: f64, n: usize) -> f32
-    requires { ⌜ n < 2 ^ 32 ⌝ }
-    ensures { λ r. ⌜ r ≡ narrowed (sum ⊘ ofInt binary64 (pos n)) ⌝ }
-{
-    float::narrow(sum / (n as u32) as f64)
 }
 
 // ---- total
@@ -227,7 +122,7 @@ pub fn sse_total(w: usize, h: usize, target: &[f32], canvas: &[f32]) -> Total
 {
     let number = total_refusal(w, h, target.len(), canvas.len());
     if number == 0 {
-        total_tested(target, canvas)
+        totals::total_tested(target, canvas)
     } else {
         Total::Refused(number)
     }
@@ -244,106 +139,7 @@ fn total_refusal(w: usize, h: usize, n: usize, m: usize) -> u8
     refused(w, h, m)
 }
 
-// Then the pixels, 16 numbers at a time: the next ones' tests are done while the additions, which may not be reordered, wait for
-// each other.
-fn total_tested(target: &[f32], canvas: &[f32]) -> Total
-    requires { ⌜ length (now target) ≡ length (now canvas) ⌝ }
-    ensures { λ r. ⌜ totalAnswer r ≡ answer (cond (allWithin (now (target .entry)) && allWithin (now (canvas .entry))) 0 7) (totalOf (now (target .entry)) (now (canvas .entry))) nought ⌝ }
-{
-    let n = target.len();
-    let mut sum = 0.0f64;
-    let mut i = 0;
-    while i < n {
-        let e = part_end(i, n);
-        if !both_within(target, canvas, i, e) {
-            return Total::Refused(refusal::PIXEL);
-        }
-        sum = add_squares(target, canvas, i, e, sum);
-        i = e;
-    }
-    Total::Done(sum)
-}
-
-fn part_end(i: usize, n: usize) -> usize
-    requires { ⌜ i < n ⌝ }
-    ensures { λ r. ⌜ (i < r) × (r ≤ n) ⌝ }
-{
-    if n - i < 16 {
-        return n;
-    }
-    i + 16
-}
-
-// As `part_within`, of two pictures in one loop.
-fn both_within(target: &[f32], canvas: &[f32], from: usize, to: usize) -> bool
-    requires { ⌜ (from ≤ to) × (to ≤ length (now target)) × (to ≤ length (now canvas)) ⌝ }
-    requires { ⌜ T (allWithin (take from (now target))) × T (allWithin (take from (now canvas))) ⌝ }
-    ensures { λ r. ⌜ r ≡ allWithin (take to (now (target .entry))) && allWithin (take to (now (canvas .entry))) ⌝ }
-{
-    let mut seen = 0u32;
-    for k in from..to {
-        seen = seen | (float::marks(target[k]) | float::marks(canvas[k]));
-    }
-    if seen < 0x8000_0000 {
-        return true;
-    }
-    each_within(target, from, to) & each_within(canvas, from, to)
-}
-
-// The sum goes on from that of the numbers before `from`. By eights, whose number the compiler knows: it works out two differences
-// and two squares at once.
-fn add_squares(target: &[f32], canvas: &[f32], from: usize, to: usize, before: f64) -> f64
-    requires { ⌜ (from ≤ to) × (to ≤ length (now target)) × (to ≤ length (now canvas)) ⌝ }
-    requires { ⌜ T (allWithin (take to (now target))) × T (allWithin (take to (now canvas))) ⌝ }
-    requires { ⌜ before ≡ totalTo (now target) (now canvas) from ⌝ }
-    ensures { λ r. ⌜ r ≡ totalTo (now (target .entry)) (now (canvas .entry)) to ⌝ }
-{
-    let mut sum = before;
-    let mut k = from;
-    while 8 <= to - k {
-        sum = add_each(target, canvas, k, k + 8, sum);
-        k += 8;
-    }
-    add_each(target, canvas, k, to, sum)
-}
-
-// One by one.
-fn add_each(target: &[f32], canvas: &[f32], from: usize, to: usize, before: f64) -> f64
-    requires { ⌜ (from ≤ to) × (to ≤ length (now target)) × (to ≤ length (now canvas)) ⌝ }
-    requires { ⌜ T (allWithin (take to (now target))) × T (allWithin (take to (now canvas))) ⌝ }
-    requires { ⌜ before ≡ totalTo (now target) (now canvas) from ⌝ }
-    ensures { λ r. ⌜ r ≡ totalTo (now (target .entry)) (now (canvas .entry)) to ⌝ }
-{
-    let mut sum = before;
-    for k in from..to {
-        sum = sum + squared(target[k], canvas[k]);
-    }
-    sum
-}
-
-// A total without the tests, for pictures within 0..1.
-pub fn total_within(target: &[f32], canvas: &[f32]) -> f64
-    requires { ⌜ length (now target) ≡ length (now canvas) ⌝ }
-    requires { ⌜ T (allWithin (now target)) × T (allWithin (now canvas)) ⌝ }
-    ensures { λ r. ⌜ TotalWithinSays (now (target .entry)) (now (canvas .entry)) r ⌝ }
-{
-    let n = target.len();
-    let mut sum = 0.0f64;
-    for i in 0..n {
-        sum = sum + squared(target[i], canvas[i]);
-    }
-    sum
-}
-
-fn squared(t: f32, c: f32) -> f64
-    requires { ⌜ T (within t) × T (within c) ⌝ }
-    ensures { λ r. ⌜ r ≡ squaredDifference t c ⌝ }
-{
-    let d = float::widen_number(t - c);
-    d * d
-}
-
-// And for any bits.
+// A total without the tests, for any bits.
 pub fn total_any(target: &[f32], canvas: &[f32]) -> f64
     requires { ⌜ length (now target) ≡ length (now canvas) ⌝ }
     ensures { λ r. ⌜ TotalAnySays (now (target .entry)) (now (canvas .entry)) r ⌝ }
@@ -351,23 +147,9 @@ pub fn total_any(target: &[f32], canvas: &[f32]) -> f64
     let n = target.len();
     let mut sum = 0.0f64;
     for i in 0..n {
-        sum = sum + squared_any(target[i], canvas[i]);
+        sum = sum + totals::squared_any(target[i], canvas[i]);
     }
     sum
-}
-
-fn squared_any(t: f32, c: f32) -> f64
-    ensures { λ r. ⌜ r ≡ squaredDifference t c ⌝ }
-{
-    let d = difference_any(t, c);
-    d * d
-}
-
-// In f32, then widened.
-fn difference_any(t: f32, c: f32) -> f64
-    ensures { λ r. ⌜ r ≡ t ⊟ c ⌝ }
-{
-    float::widen(t - c)
 }
 
 // ---- painting

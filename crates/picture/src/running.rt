@@ -4,7 +4,7 @@ ghost use lib.Dec.{T};
 ghost use lib.ListN.{length};
 ghost use Rattle.float.specs.Within.{allWithin};
 ghost use Rattle.picture.specs.Rows.{TotalOnSays};
-use crate::squared;
+use crate::totals::squared;
 
 // The squared differences of `count` numbers from number `from` on, added to a sum one by one.
 pub fn total_on(target: &[f32], canvas: &[f32], from: usize, count: usize, sum: f64) -> f64

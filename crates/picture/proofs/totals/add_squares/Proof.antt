@@ -5,8 +5,8 @@ use Rattle.picture.specs.Pixels.{totalTo}
 use Rattle.picture.specs.PixelLaws.{within-first}
 use borrow.Author.Needs.{needs}
 use native.Mathlib.Omega.{arith}
-use Rattle.picture.proofs.add_squares.Statement.{statement}
-use Rattle.picture.proofs.add_squares.Tie as tie
+use Rattle.picture.proofs.totals.add_squares.Statement.{statement}
+use Rattle.picture.proofs.totals.add_squares.Tie as tie
 
 abbrev Inv-loop : tie.InvT-loop
 Inv-loop target canvas from to before sum₀ k₀ sum k = (k ≤ to) × (sum ≡ totalTo target canvas k)

@@ -11,8 +11,8 @@ use Rattle.float.specs.Within.{allWithin}
 use Rattle.float.specs.MarksLaws.{or-low, one-more}
 use borrow.Author.Needs.{needs}
 use native.Mathlib.Omega.{arith}
-use Rattle.picture.proofs.both_within.Statement.{statement}
-use Rattle.picture.proofs.both_within.Tie as tie
+use Rattle.picture.proofs.totals.both_within.Statement.{statement}
+use Rattle.picture.proofs.totals.both_within.Tie as tie
 
 abbrev Inv-loop : tie.InvT-loop
 Inv-loop target canvas from to seen₀ k₀ seen k = (k ≤ to) × (seen < 0x8000_0000 → T (allWithin (take k target)) × T (allWithin (take k canvas)))

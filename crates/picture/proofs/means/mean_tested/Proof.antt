@@ -14,8 +14,8 @@ use Rattle.picture.specs.Pixels.{sumsTo}
 use Rattle.picture.specs.PixelLaws.{sums-none, mean-all, few-pixels, first-bad, first-all}
 use borrow.Author.Needs.{needs}
 use native.Mathlib.Omega.{arith}
-use Rattle.picture.proofs.mean_tested.Statement.{statement}
-use Rattle.picture.proofs.mean_tested.Tie as tie
+use Rattle.picture.proofs.means.mean_tested.Statement.{statement}
+use Rattle.picture.proofs.means.mean_tested.Tie as tie
 
 abbrev Inv-loop : tie.InvT-loop
 Inv-loop w h target n sums₀ i₀ sums i =

@@ -1,6 +1,6 @@
 -- The square of the difference.
-use Rattle.picture.proofs.squared_any.Statement.{statement}
-use Rattle.picture.proofs.squared_any.Tie as tie
+use Rattle.picture.proofs.totals.squared_any.Statement.{statement}
+use Rattle.picture.proofs.totals.squared_any.Tie as tie
 use borrow.Author.Needs.{needs}
 
 difference-any-requires : tie.Need-difference-any-requires

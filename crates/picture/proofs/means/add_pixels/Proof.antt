@@ -5,8 +5,8 @@ use Rattle.picture.specs.Pixels.{sumsTo}
 use Rattle.picture.specs.PixelLaws.{within-first}
 use borrow.Author.Needs.{needs}
 use native.Mathlib.Omega.{arith}
-use Rattle.picture.proofs.add_pixels.Statement.{statement}
-use Rattle.picture.proofs.add_pixels.Tie as tie
+use Rattle.picture.proofs.means.add_pixels.Statement.{statement}
+use Rattle.picture.proofs.means.add_pixels.Tie as tie
 
 abbrev Inv-loop : tie.InvT-loop
 Inv-loop target from to sums₀ i₀ sums i = (i ≤ to) × (sums ≡ sumsTo target i)

@@ -14,8 +14,8 @@ use Rattle.picture.specs.Pixels.{totalTo}
 use Rattle.picture.specs.PixelLaws.{total-none, total-all, part-bad, part-all}
 use borrow.Author.Needs.{needs}
 use native.Mathlib.Omega.{arith}
-use Rattle.picture.proofs.total_tested.Statement.{statement}
-use Rattle.picture.proofs.total_tested.Tie as tie
+use Rattle.picture.proofs.totals.total_tested.Statement.{statement}
+use Rattle.picture.proofs.totals.total_tested.Tie as tie
 
 abbrev Inv-loop : tie.InvT-loop
 Inv-loop target canvas n sum₀ i₀ sum i =

@@ -1,8 +1,8 @@
 -- The difference of two values within 0..1 is a number, and a widened number is itself.
 use lib.Ieee.{binary32}
 use Rattle.picture.specs.PixelLaws.{difference-number}
-use Rattle.picture.proofs.squared.Statement.{statement}
-use Rattle.picture.proofs.squared.Tie as tie
+use Rattle.picture.proofs.totals.squared.Statement.{statement}
+use Rattle.picture.proofs.totals.squared.Tie as tie
 
 widen-number-requires : tie.Need-widen-number-requires
 widen-number-requires c κs = difference-number binary32 (c .args .t) (c .args .c) (c .pre .0) (c .pre .1)

@@ -3,8 +3,8 @@ use Prim.Native.Nat.{_+_, _*_}
 use Rattle.picture.specs.PixelLaws.{sums-more, number-before}
 use borrow.Author.Needs.{needs}
 use native.Mathlib.Omega.{arith}
-use Rattle.picture.proofs.add_pixel.Statement.{statement}
-use Rattle.picture.proofs.add_pixel.Tie as tie
+use Rattle.picture.proofs.means.add_pixel.Statement.{statement}
+use Rattle.picture.proofs.means.add_pixel.Tie as tie
 
 mul-widen-number : tie.Need-mul-widen-number
 mul-widen-number c = search needs

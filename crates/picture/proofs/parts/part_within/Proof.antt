@@ -8,8 +8,8 @@ use Rattle.float.specs.Within.{allWithin}
 use Rattle.float.specs.MarksLaws.{or-low, one-more}
 use borrow.Author.Needs.{needs}
 use native.Mathlib.Omega.{arith}
-use Rattle.picture.proofs.part_within.Statement.{statement}
-use Rattle.picture.proofs.part_within.Tie as tie
+use Rattle.picture.proofs.parts.part_within.Statement.{statement}
+use Rattle.picture.proofs.parts.part_within.Tie as tie
 
 abbrev Inv-loop : tie.InvT-loop
 Inv-loop picture from to seen₀ k₀ seen k = (k ≤ to) × (seen < 0x8000_0000 → T (allWithin (take k picture)))

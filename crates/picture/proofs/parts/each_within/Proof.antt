@@ -8,8 +8,8 @@ use Rattle.laws.specs.EveryLaws.{every-step}
 use Rattle.float.specs.Within.{within, allWithin}
 use borrow.Author.Needs.{needs}
 use native.Mathlib.Omega.{arith}
-use Rattle.picture.proofs.each_within.Statement.{statement}
-use Rattle.picture.proofs.each_within.Tie as tie
+use Rattle.picture.proofs.parts.each_within.Statement.{statement}
+use Rattle.picture.proofs.parts.each_within.Tie as tie
 
 abbrev Inv-loop : tie.InvT-loop
 Inv-loop picture from to ok₀ k₀ ok k = (k ≤ to) × (ok ≡ allWithin (take k picture))
