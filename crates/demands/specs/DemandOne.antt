@@ -5,7 +5,7 @@ use mathlib.Core.Bool.{Bool, true, false, not, _||_, cond}
 use mathlib.Core.List.{List, [], _∷_, _++_}
 use Prim.Native.Nat.{ℕ, zero, suc, _<_, _≤_}
 use native.Mathlib.Omega.{arith}
-use borrow.Author.Tests.{ne-eqb}
+use borrow.Author.Tests.{ne-eqb, eqb-true}
 use lib.Dec.{T, eqb, ltb}
 use lib.IntN.{ℤ, pos}
 use lib.ListN.{length}
@@ -43,6 +43,16 @@ use Rattle.picture.specs.declared.Mean.{Mean}
 use Rattle.picture.specs.declared.Total.{Total}
 use Rattle.picture.specs.Pixels.{badColour, filled, fillRefusal, meanRefusal, totalRefusal, noColour, meanAnswer, totalAnswer, FilledCanvasSays, MeanRgbSays, SseTotalSays}
 use Rattle.paint.specs.Paint.{paintRefusal, PaintSays}
+use Rattle.shapes.specs.declared.Shape.{Shape}
+use Rattle.shapes.specs.declared.Shapes.{Shapes}
+use Rattle.shapes.specs.declared.Candidates.{Candidates}
+use Rattle.shapes.specs.Ranges.{rangesOf}
+use Rattle.shapes.specs.Lists.{listed}
+use Rattle.traces.specs.Refinement.{Progress, drawn, refined}
+use Rattle.traces.specs.Scenes.{sceneOf}
+use Rattle.refine.specs.declared.Refined.{Refined}
+use Rattle.refine.specs.Tests as refine
+use Rattle.refine.specs.Answers.{Told, told, doneWith, refusedWith, RefineShapesSays}
 
 -- ---- the numbers
 
@@ -169,6 +179,37 @@ pub paint-refuses-as-tabled : (kind : Kind) (opacity red green blue : Float) (w 
     ∷ [])
 unfolding paintRefusal
 paint-refuses-as-tabled kind opacity red green blue w h target canvas table r canvas′ table′ p = p .answer
+
+-- "pixel: .. refinement, one in its target": the counts, the places, opacities and colours of what is listed and offered, and the target
+module _ (w h : ℕ) (red green blue : Float) (target : List Float) (list : Shapes) (candidates : Candidates) (passes : ℕ) (first second : List Float) (r : Refined) (first′ second′ : List Float)
+    (says : RefineShapesSays w h red green blue target list candidates passes first second r first′ second′) where
+  abbrev refinementTests : List Test
+  refinementTests =
+      refine.sizeTests w h (length target) (length first) (length second) (list .count) (candidates .count) passes
+      ++ refine.rangeTests (rangesOf (refine.lookedAt list candidates)) red green blue target
+
+  abbrev by-the-rule : Progress Shape
+  by-the-rule = refined (sceneOf w h red green blue target candidates) passes (listed list)
+
+  number-told : (b : Bool) (n : ℕ) → eqb n 0 ≡ b → cond b (doneWith by-the-rule) (refusedWith n list) .refusal ≡ n
+  number-told true n e = sym (eqb-true n 0 e)
+  number-told false n e = refl
+
+  pub refinement-refuses-as-tabled : r .refusal ≡ lowest refinementTests
+  unfolding refine.refusalOf
+  refinement-refuses-as-tabled = ap (λ (t : Told). t .refusal) (says .answer) ∙ number-told (eqb (lowest refinementTests) 0) (lowest refinementTests) refl
+
+  -- "but for a shape list, which comes back as handed in; no lent number has changed"
+  pub refused-refinement-changes-nothing : (r .refusal ≡ 0 → ⊥) → (told r ≡ refusedWith (r .refusal) list) × (first′ ≡ first) × (second′ ≡ second)
+  unfolding refine.refusalOf
+  refused-refinement-changes-nothing given =
+      let n = lowest refinementTests in
+      let no : eqb n 0 ≡ false = ne-eqb n 0 (λ z. given (refinement-refuses-as-tabled ∙ z)) in
+      let final = drawn (sceneOf w h red green blue target candidates) (by-the-rule .list) in (
+        says .answer ∙ ap (λ (b : Bool). cond b (doneWith by-the-rule) (refusedWith n list)) no ∙ ap (λ (k : ℕ). refusedWith k list) (sym refinement-refuses-as-tabled),
+        says .left-first ∙ ap (λ (b : Bool). cond b final first) no,
+        says .left-second ∙ ap (λ (b : Bool). cond b final second) no,
+      )
 
 -- ---- what a refused call leaves
 

@@ -36,7 +36,7 @@ module _ (w h : ℕ) (target canvas table other : List Float) (built : BuildSays
   abbrev pub Reached : List Call → State → Type 0
   Reached calls s = Calls (Paints target) calls start s
 
-  reached-kept : (calls : List Call) (s : State) → Reached calls s → KeptState w h target s
+  pub reached-kept : (calls : List Call) (s : State) → Reached calls s → KeptState w h target s
   reached-kept calls s r =
       calls-keep (Paints target) (KeptState w h target) (λ c s t p k. keeps w h target c s t p k) calls start s r (built-kept w h target canvas other table built)
 

@@ -3,9 +3,9 @@ pub mod DemandOne
 pub mod DemandTwo
 pub mod WrittenRules
 pub mod DemandThree
+pub mod OneAnswer
 pub mod StarredFigures
 pub mod ShutOut
-pub mod PaintShutOut
 -- The words that they use.
 pub mod PaintCalls
 -- What they rest on.
