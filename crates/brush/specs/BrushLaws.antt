@@ -26,36 +26,28 @@ module _ (b : Brush) where
   unfolding stroked tab
   pixel p e = sets-end (mixed b 0 (getD p 0 nan) ∷ mixed b 1 (getD p 1 nan) ∷ mixed b 2 (getD p 2 nan) ∷ []) p 0 e ∙ rw e refl
 
-  -- ---- a run from the front: q pixels are done
-  unfoldable pub doneTo : List Float → ℕ → List Float
-  doneTo old q = fill old (brushed b old) (q * 3)
+-- ---- a run from the front: q pixels are done
+pub record Done (b : Brush) (old : List Float) (q : ℕ) (now : List Float) : Type 0 where
+  pub so-far : now ≡ fill old (brushed b old) (q * 3)
+  pub long : length now ≡ length old
 
-  pub done-none : (old : List Float) → old ≡ doneTo old 0
-  unfolding doneTo
-  done-none old = fill-none old (brushed b old)
+module _ {b : Brush} {old : List Float} where
+  pub done-none : Done b old 0 old
+  done-none = record { so-far = fill-none old (brushed b old); long = refl }
 
-  pub done-all : (old : List Float) (q : ℕ) → length old ≤ q * 3 → doneTo old q ≡ brushed b old
-  unfolding doneTo
-  done-all old q h = fill-all old (brushed b old) (q * 3) (sym (length-stroked nan (mixed b) old)) (omega (arith, length-stroked nan (mixed b) old))
+  -- the pixels up to p were lent, `&mut now[a..e]`, and came back brushed
+  pub done-more : {now r : List Float} {q : ℕ} (p a e : ℕ) → Done b old q now → a ≡ q * 3 → e ≡ p * 3 → a ≤ e → e ≤ length old → r ≡ brushed b (take (e - a) (drop a now))
+      → Done b old p (putMid a (e - a) now r)
+  done-more {now} {r} {q} p a e s f g h l t =
+      let same = sym (length-stroked nan (mixed b) old) in
+      let k : q * 3 + (e - q * 3) ≤ length (brushed b old) = omega (arith, same) in
+      let m : q * 3 + (e - q * 3) ≡ p * 3 = omega arith in
+      let n : r ≡ take (e - q * 3) (drop (q * 3) (brushed b old)) =
+      rw (f, s .so-far) at t ∙ ap (brushed b) (fill-part old (brushed b old) (q * 3) (e - q * 3) same k) ∙ stroked-part nan (mixed b) old q (e - q * 3) (omega arith) in
+      let d : putMid a (e - a) now r ≡ fill old (brushed b old) (p * 3) = rw (f, s .so-far) (fill-put old (brushed b old) r (q * 3) (e - q * 3) same k n ∙ ap (fill old (brushed b old)) m) in
+      record { so-far = d; long = ap length d ∙ length-fill old (brushed b old) (p * 3) (omega (arith, same)) same ∙ sym same }
 
-  -- k pixels more were lent, `&mut now[a..e]`, and came back brushed
-  more : (old r : List Float) (q k e : ℕ) → e ≡ (q + k) * 3 → e ≤ length old → r ≡ brushed b (take (e - q * 3) (drop (q * 3) (doneTo old q)))
-      → putMid (q * 3) (e - q * 3) (doneTo old q) r ≡ doneTo old (q + k)
-  unfolding doneTo
-  more old r q k e o h t =
-      let n = length-stroked nan (mixed b) old in
-      let m : q * 3 + (e - q * 3) ≡ (q + k) * 3 = omega arith in
-      let l : q * 3 + (e - q * 3) ≤ length old = omega arith in
-      fill-put old (brushed b old) r (q * 3) (e - q * 3) (sym n) (omega (arith, n))
-      (t ∙ ap (brushed b) (fill-part old (brushed b old) (q * 3) (e - q * 3) (sym n) (omega (arith, n))) ∙ stroked-part nan (mixed b) old q (e - q * 3) l)
-      ∙ ap (fill old (brushed b old)) m
-
-  pub done-more : (old now r : List Float) (q k a e : ℕ) → now ≡ doneTo old q → a ≡ q * 3 → e ≡ (q + k) * 3 → e ≤ length old
-      → r ≡ brushed b (take (e - a) (drop a now)) → putMid a (e - a) now r ≡ doneTo old (q + k)
-  done-more old now r q k a e d p o h t = rw (d, p) (more old r q k e o h (rw (← p, ← d) t))
-
-  pub length-done : (old : List Float) (q : ℕ) → q * 3 ≤ length old → length (doneTo old q) ≡ length old
-  unfolding doneTo
-  length-done old q h =
-      let n = length-stroked nan (mixed b) old in
-      length-fill old (brushed b old) (q * 3) (omega (arith, n)) (sym n) ∙ n
+  pub done-all : {now : List Float} {q : ℕ} → Done b old q now → length old ≤ q * 3 → now ≡ brushed b old
+  done-all {now} {q} s h =
+      let same = sym (length-stroked nan (mixed b) old) in
+      s .so-far ∙ fill-all old (brushed b old) (q * 3) same (omega (arith, same))

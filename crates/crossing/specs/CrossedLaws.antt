@@ -1,6 +1,6 @@
 -- Laws: a list crosses in one way; lists one shape longer.
 use mathlib.Core.Path.{_≡_, refl, sym, ap, _∙_}
-use mathlib.Core.Bool.{Bool, true, false, not, _||_}
+use mathlib.Core.Bool.{Bool, true, false, _||_}
 use mathlib.Core.List.{List, [], _∷_, _++_, map}
 use mathlib.Core.Option.{Option}
 use Prim.Native.Nat.{ℕ, zero, suc, _+_, _-_, _*_, _<_, _≤_}
@@ -8,7 +8,7 @@ use native.Mathlib.Numerals.{add-one}
 use native.Mathlib.Omega.{arith}
 use lib.IntN.{ℤ, pos}
 use lib.Ieee.{Float}
-use lib.ListN.{length, take, drop, set, getD, length-take, length-drop}
+use lib.ListN.{length, take, drop, set, getD, length-take, length-drop, length-set}
 use lib.Seq.{getD-take, length-take-le}
 use Rattle.laws.specs.Fit.{no-both}
 use Rattle.laws.specs.Tab.{tab}
@@ -108,13 +108,25 @@ circle-place x y r j = padded (x ∷ y ∷ r ∷ []) (suc (suc (suc (suc (suc ze
 pub triangle-place : (x0 y0 x1 y1 x2 y2 : ℤ) (j : ℕ) → getD (x0 ∷ y0 ∷ x1 ∷ y1 ∷ x2 ∷ y2 ∷ pos 0 ∷ pos 0 ∷ []) j (pos 0) ≡ placeIn (Triangle x0 y0 x1 y1 x2 y2) j
 triangle-place x0 y0 x1 y1 x2 y2 j = padded (x0 ∷ y0 ∷ x1 ∷ y1 ∷ x2 ∷ y2 ∷ []) (suc (suc zero)) j
 
--- a list that is written place by place
-module _ {A : Type 0} (f : ℕ → A) (n : ℕ) (d : A) where
-  pub write-more : (l : List A) (i : ℕ) (a : A) → length l ≡ n → i < n → take i l ≡ take i (tab f n) → a ≡ f i → take (i + 1) (set l i a) ≡ take (i + 1) (tab f n)
-  write-more l i a e h t g = agree-more l (tab f n) i d a (e ∙ sym (length-tab f n)) (omega (arith, e)) t (g ∙ sym (getD-tab f n i d h))
+-- a list that is written place by place, up to k
+pub record Written {A : Type 0} (f : ℕ → A) (n : ℕ) (l : List A) (k : ℕ) : Type 0 where
+  pub upto : k ≤ n
+  pub long : length l ≡ n
+  pub so-far : take k l ≡ take k (tab f n)
 
-  pub write-all : (l : List A) (i : ℕ) → length l ≡ n → n ≤ i → take i l ≡ take i (tab f n) → l ≡ tab f n
-  write-all l i e h t = agree-all l (tab f n) i (e ∙ sym (length-tab f n)) (omega (arith, length-tab f n)) t
+module _ {A : Type 0} (f : ℕ → A) {n : ℕ} {l : List A} where
+  pub written-none : length l ≡ n → Written f n l 0
+  written-none e = record { upto = omega arith; long = e; so-far = refl }
+
+  pub written-more : {k : ℕ} (a : A) → Written f n l k → k < n → a ≡ f k → Written f n (set l k a) (k + 1)
+  written-more {k} a s h g = record {
+    upto = omega arith;
+    long = length-set l k a ∙ s .long;
+    so-far = agree-more l (tab f n) k a a (s .long ∙ sym (length-tab f n)) (omega (arith, s .long)) (s .so-far) (g ∙ sym (getD-tab f n k a h));
+  }
+
+  pub written-all : {k m : ℕ} → Written f n l k → n ≤ k → m ≡ n → l ≡ tab f m
+  written-all {k} s h e = agree-all l (tab f n) k (s .long ∙ sym (length-tab f n)) (omega (arith, length-tab f n)) (s .so-far) ∙ ap (tab f) (sym e)
 
 -- shape i of the list is item i
 pub item-of : (items : List Shape) (n i : ℕ) → i < n → getD items i blank ≡ entry (take n items) i

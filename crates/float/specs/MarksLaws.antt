@@ -1,5 +1,5 @@
 -- Laws: a pattern without the top bit, of a float that is at most 1, is of one within 0..1; lists of them; sums and differences that are numbers.
-use mathlib.Core.Path.{_≡_, refl, sym, _∙_, subst}
+use mathlib.Core.Path.{refl, sym, subst}
 use mathlib.Core.Bool.{Bool, true, false, _&&_, cond, Bool·beq}
 use mathlib.Core.List.{List}
 use Prim.Native.Nat.{ℕ, zero, suc, _+_, _-_, _*_, _/_, _%_, _^_, _<_}
@@ -18,10 +18,6 @@ use lib.Ieee.Order.{le-of-values}
 use Rattle.float.specs.Within.{nought, one, number, within, allWithin}
 use Rattle.laws.specs.EveryLaws.{every-step}
 use Rattle.float.specs.Numbers.{round-no-nan}
-use Rattle.float.specs.Marks.{MarksSays}
-
-pub MarksSays-unique : (x : Float) (r s : ℕ) → MarksSays x r → MarksSays x s → r ≡ s
-MarksSays-unique x r s p q = p .pattern ∙ sym (q .pattern)
 
 -- ---- a pattern without the top bit, of a float that is at most 1
 pick : (P : Float → Type 0) (b : Bool) (x y : Float) → P x → P y → P (cond b x y)

@@ -2,14 +2,15 @@
 use mathlib.Core.Path.{_≡_, refl, sym, ap, _∙_}
 use mathlib.Core.Bool.{Bool, true, false, cond}
 use mathlib.Core.List.{List, _++_}
-use Prim.Native.Nat.{ℕ, zero, suc, _+_, _*_, _≤_, _<_}
+use Prim.Native.Nat.{ℕ, zero, suc, _+_, _*_, _<_}
 use native.Mathlib.Numerals.{add-one}
 use native.Mathlib.Omega.{arith}
-use lib.ListN.{length, take, drop, getD, length-append}
-use lib.Seq.{length-take-le}
-use lib.Ieee.{Float, nan}
+use lib.ListN.{length, take, length-append}
+use lib.Seq.{length-take-le, sets, length-sets, sets-eq}
+use lib.Ieee.{Float}
 use Rattle.laws.specs.Before.{before}
 use Rattle.laws.specs.BeforeLaws.{before-none, before-more}
+use Rattle.laws.specs.Fill.{sets-end}
 use Rattle.laws.specs.RowLaws.{length-putRows}
 use Rattle.sums.specs.declared.ShapeSums.{ShapeSums}
 use Rattle.sums.specs.Sums.{noSums, pixelSums, plus}
@@ -19,14 +20,21 @@ pub RebuildRowSays-unique : (whole : Bool) (w : ℕ) (target canvas old r s : Li
     → RebuildRowSays whole w target canvas old r → RebuildRowSays whole w target canvas old s → r ≡ s
 RebuildRowSays-unique whole w target canvas old r s p q = p ∙ sym q
 
--- what a place is left with: the six and the nine, or the nine alone
-module _ (whole : Bool) (s : ShapeSums) (old last : List Float) where
-  pub put-whole : (mid : List Float) → whole ≡ true → mid ≡ targetSix s ++ drop 6 old → last ≡ take 6 mid ++ canvasNine s
-      → last ≡ cond whole (targetSix s) (take 6 old) ++ canvasNine s
-  put-whole mid w e f = f ∙ ap (λ (l : List Float). take 6 l ++ canvasNine s) e ∙ sym (ap (λ (b : Bool). cond b (targetSix s) (take 6 old) ++ canvasNine s) w)
+-- what a place is left with: the six, if they are written, and the nine
+module _ (whole : Bool) (s : ShapeSums) (old mid : List Float) (e : length old ≡ 15) (six : mid ≡ cond whole (sets old 0 (targetSix s)) old) where
+  pub put-length : length mid ≡ 15
+  put-length = either whole six
+    where
+      either : (b : Bool) → mid ≡ cond b (sets old 0 (targetSix s)) old → length mid ≡ 15
+      either true m = ap length m ∙ length-sets old 0 (targetSix s) ∙ e
+      either false m = ap length m ∙ e
 
-  pub put-part : whole ≡ false → last ≡ take 6 old ++ canvasNine s → last ≡ cond whole (targetSix s) (take 6 old) ++ canvasNine s
-  put-part w f = f ∙ sym (ap (λ (b : Bool). cond b (targetSix s) (take 6 old) ++ canvasNine s) w)
+  pub put-all : (last : List Float) → last ≡ sets mid 6 (canvasNine s) → last ≡ cond whole (targetSix s) (take 6 old) ++ canvasNine s
+  put-all last f = f ∙ sets-end (canvasNine s) mid 6 put-length ∙ ap (λ (l : List Float). l ++ canvasNine s) (either whole six)
+    where
+      either : (b : Bool) → mid ≡ cond b (sets old 0 (targetSix s)) old → take 6 mid ≡ cond b (targetSix s) (take 6 old)
+      either true m = ap (take 6) (m ∙ sets-eq (targetSix s) old 0 (omega arith))
+      either false m = ap (take 6) m
 
 module _ (target canvas : List Float) where
   pub sums-none : noSums ≡ sumsAt target canvas 0

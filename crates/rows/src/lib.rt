@@ -3,11 +3,12 @@ ghost use mathlib.Core.Path.{_≡_};
 ghost use mathlib.Core.Bool.{true, cond};
 ghost use mathlib.Core.List.{_++_};
 ghost use Prim.Native.Nat.{_+_, _*_, _<_, _≤_, _^_};
-ghost use lib.ListN.{length, take, drop};
+ghost use lib.ListN.{length, take};
+ghost use lib.Seq.{sets};
 ghost use lib.Dec.{T};
 ghost use Rattle.float.specs.Within.{allNumbers};
 ghost use Rattle.sums.specs.Sums.{plus};
-ghost use Rattle.rows.specs.Places.{RowSizes, pixelAt, targetSix, canvasNine, RebuildRowSays};
+ghost use Rattle.rows.specs.Places.{RowSizes, pixelAt, all3, targetSix, canvasNine, RebuildRowSays};
 use sums::ShapeSums;
 
 // The sums of the pixels before each place: all fifteen, or the nine that read the canvas.
@@ -81,37 +82,26 @@ fn put(place: &mut [f64], s: ShapeSums, whole: bool)
     requires { ⌜ length (now place) ≡ 15 ⌝ }
     ensures { λ _. ⌜ now (place .exit) ≡ cond whole (targetSix s) (take 6 (now (place .entry))) ++ canvasNine s ⌝ }
 {
+    let t = s.s_t;
+    let t2 = s.s_t2;
+    let c = s.s_c;
+    let c2 = s.s_c2;
+    let tc = s.s_tc;
     if whole {
-        put_target(place, s);
-        put_canvas(place, s);
-    } else {
-        put_canvas(place, s);
+        put_three(place, 0, t);
+        put_three(place, 3, t2);
     }
+    put_three(place, 6, c);
+    put_three(place, 9, c2);
+    put_three(place, 12, tc);
 }
 
-fn put_target(place: &mut [f64], s: ShapeSums)
-    requires { ⌜ length (now place) ≡ 15 ⌝ }
-    ensures { λ _. ⌜ now (place .exit) ≡ targetSix s ++ drop 6 (now (place .entry)) ⌝ }
+// A sum's three channels.
+fn put_three(place: &mut [f64], at: usize, sum: [f64; 3])
+    requires { ⌜ at + 3 ≤ length (now place) ⌝ }
+    ensures { λ _. ⌜ now (place .exit) ≡ sets (now (place .entry)) at (all3 sum) ⌝ }
 {
-    place[0] = s.s_t[0];
-    place[1] = s.s_t[1];
-    place[2] = s.s_t[2];
-    place[3] = s.s_t2[0];
-    place[4] = s.s_t2[1];
-    place[5] = s.s_t2[2];
-}
-
-fn put_canvas(place: &mut [f64], s: ShapeSums)
-    requires { ⌜ length (now place) ≡ 15 ⌝ }
-    ensures { λ _. ⌜ now (place .exit) ≡ take 6 (now (place .entry)) ++ canvasNine s ⌝ }
-{
-    place[6] = s.s_c[0];
-    place[7] = s.s_c[1];
-    place[8] = s.s_c[2];
-    place[9] = s.s_c2[0];
-    place[10] = s.s_c2[1];
-    place[11] = s.s_c2[2];
-    place[12] = s.s_tc[0];
-    place[13] = s.s_tc[1];
-    place[14] = s.s_tc[2];
+    place[at] = sum[0];
+    place[at + 1] = sum[1];
+    place[at + 2] = sum[2];
 }

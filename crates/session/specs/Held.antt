@@ -1,12 +1,20 @@
 -- Rules: how the running state is held: its numbers by value, two pictures and a table at the front of what is lent; and what a step promises.
 use mathlib.Core.Path.{_≡_}
-use mathlib.Core.Bool.{Bool, false, cond}
-use mathlib.Core.List.{List}
+use mathlib.Core.Bool.{false, not, cond}
+use mathlib.Core.List.{List, [], _∷_}
 use Prim.Native.Nat.{ℕ, _+_, _*_, _≤_}
 use lib.Dec.{T, eqb}
 use lib.ListN.{length, take, drop}
 use lib.Ieee.{Float}
-use Rattle.float.specs.Within.{allWithin}
+use Rattle.refusal.specs.Refusals.{lowest, placeIf, opacityIf}
+use Rattle.float.specs.Within.{within, allWithin}
+use Rattle.cover.specs.declared.Kind.{Kind}
+use Rattle.cover.specs.Cover.{badPlaces}
+use Rattle.grade.specs.declared.Scored.{Scored}
+use Rattle.grade.specs.Finalize.{finalized}
+use Rattle.grade.specs.Answered.{answered}
+use Rattle.score.specs.Scoring.{spanSums}
+use Rattle.lines.specs.Hex.{malformed}
 use Rattle.table.specs.Table.{Table}
 use Rattle.frame.specs.Frames as frames
 use Rattle.frame.specs.declared.Answer.{Answer}
@@ -54,6 +62,13 @@ sessionOf s target canvas =
 
 abbrev pub stepped : State → Answer → Stepped
 stepped s a = record { state = s; answer = a }
+
+-- ---- a shape on the picture held: its number, 0 for none, and its score from the table
+abbrev pub shapeRefusal : State → Kind → Float → ℕ
+shapeRefusal s kind opacity = cond (eqb (s .w) 0) malformed (lowest (placeIf (badPlaces kind) ∷ opacityIf (not (within opacity)) ∷ []))
+
+abbrev pub weighedOf : State → Kind → Float → List Float → Scored
+weighedOf s kind opacity table = answered (shapeRefusal s kind opacity) (finalized (spanSums kind (s .w) (s .h) (take (tableSize s) table)) opacity)
 
 -- ---- the promises
 -- the rule's step from the state held before to the state held after; what lies behind the pictures and the table stays

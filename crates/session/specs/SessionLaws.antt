@@ -5,8 +5,8 @@ use mathlib.Core.List.{List, [], _∷_, _++_, map}
 use Prim.Native.Nat.{ℕ, _+_, _-_, _*_, _≤_, _<_}
 use native.Mathlib.Nat.{mul-le-mul, sub-zero}
 use native.Mathlib.Omega.{arith}
-use borrow.Author.Tests.{le-ltb, lt-ltb, le-leb, lt-leb, eq-eqb, ne-eqb, eqb-true, eqb-false, ltb-false}
-use lib.Dec.{T, eqb, ltb, leb}
+use borrow.Author.Tests.{le-leb, lt-leb, eq-eqb, ne-eqb, eqb-true, eqb-false, ltb-false}
+use lib.Dec.{T, eqb, ltb}
 use lib.ListN.{length, take, drop, length-append, length-drop}
 use lib.Seq.{take-at, drop-at, length-take-le}
 use lib.Ieee.{Float, binary32, binary64, ofBits, toBits}
@@ -27,16 +27,23 @@ use Rattle.picture.specs.Pixels.{filled, totalOf}
 use Rattle.picture.specs.Painting.{painted}
 use Rattle.lines.specs.Hex.{malformed}
 use Rattle.frame.specs.declared.Values.{Values}
-use Rattle.frame.specs.declared.Answer.{Answer}
 use Rattle.frame.specs.declared.Answer.the-variants.{Made, Set, Scored, Painted, Refused}
 use Rattle.frame.specs.Frames.{Request, new, row, score, paint}
 use Rattle.held.specs.declared.State.{State}
 use Rattle.held.specs.declared.Request as asked
-use Rattle.held.specs.Asking.{noPicture, requestOf}
+use Rattle.held.specs.Asking.{requestOf}
 use Rattle.session.specs.declared.Stepped.{Stepped}
 use Rattle.session.specs.Session.{Session, nothing, drawing, channel, badSides, misplaced, shapeTests, refusal, scoreOf, paintedOf, valuesOf, taken, given, after, answer}
-use Rattle.session.specs.Held.{Sides, Sheet, pictureSize, tableSize, Standing, none, some, Holds, sessionOf, stepped, StepTakes}
+use Rattle.session.specs.Held.{Sides, Sheet, pictureSize, tableSize, Standing, none, some, Holds, sessionOf, shapeRefusal, weighedOf, stepped, StepTakes}
 use Rattle.session.specs.SheetLaws.{table-sums}
+
+pub picture-room : (w h : ℕ) → w ≤ 16 → h ≤ 16 → h * w * 3 ≤ 768
+picture-room w h a b = omega (arith, mul-le-mul b a)
+
+pub table-room : (w h : ℕ) → w ≤ 16 → h ≤ 16 → h * (w + 1) * 15 ≤ 4080
+table-room w h a b =
+    let d : w + 1 ≤ 17 = omega arith in
+    omega (arith, mul-le-mul b d)
 
 -- ---- what is held
 module _ (s : State) (t c : List Float) where
@@ -66,13 +73,14 @@ module _ (s : State) (t c : List Float) where
             (omega arith, omega arith)
         by (some a b) = (a .sides .w-high, a .sides .h-high)
 
-pub picture-room : (w h : ℕ) → w ≤ 16 → h ≤ 16 → h * w * 3 ≤ 768
-picture-room w h a b = omega (arith, mul-le-mul b a)
+-- there is room for a picture of the sizes held, and its sides are within 1..16
+pub rooms : {s : State} {t c tab : List Float} → Holds s t c tab → (pictureSize s ≤ 768) × (tableSize s ≤ 4080) × (s .w ≤ 16)
+rooms {s} {t} {c} {tab} h =
+    let m = small s t c tab h in
+    (picture-room (s .w) (s .h) (m .0) (m .1), table-room (s .w) (s .h) (m .0) (m .1), m .0)
 
-pub table-room : (w h : ℕ) → w ≤ 16 → h ≤ 16 → h * (w + 1) * 15 ≤ 4080
-table-room w h a b =
-    let d : w + 1 ≤ 17 = omega arith in
-    omega (arith, mul-le-mul b d)
+pub sides-held : {s : State} {t c tab : List Float} → Holds s t c tab → (s .w ≡ 0 → ⊥) → Sides (s .w) (s .h)
+sides-held {s} {t} {c} {tab} h n = sheet-of s t c tab h n .0 .sides
 
 pub sides-of : (w h : ℕ) → badSides w h ≡ false → Sides w h
 unfolding badSides
@@ -277,22 +285,22 @@ refused-of n m v r e f = by (eqb n 0) refl (sym f ∙ e)
         (sym same, λ o. eqb-false n 0 g (sym same ∙ o))
 
 module _ (kind : Kind) (bits : ℕ) where
-  pub score-first : refusal nothing (score kind bits) ≡ malformed
+  score-first : refusal nothing (score kind bits) ≡ malformed
   unfolding refusal misplaced
   score-first = refl
 
-  pub paint-first : refusal nothing (paint kind bits) ≡ malformed
+  paint-first : refusal nothing (paint kind bits) ≡ malformed
   unfolding refusal misplaced
   paint-first = refl
 
   module _ (w h : ℕ) (p : Bool) (t c : List Float) where
-    pub score-number : refusal (drawing w h p t c) (score kind bits) ≡ lowest (shapeTests kind bits)
+    score-tests : refusal (drawing w h p t c) (score kind bits) ≡ lowest (shapeTests kind bits)
     unfolding refusal misplaced
-    score-number = refl
+    score-tests = refl
 
-    pub paint-number : refusal (drawing w h p t c) (paint kind bits) ≡ lowest (shapeTests kind bits)
+    paint-tests : refusal (drawing w h p t c) (paint kind bits) ≡ lowest (shapeTests kind bits)
     unfolding refusal misplaced
-    paint-number = refl
+    paint-tests = refl
 
     score-taken : taken (drawing w h p t c) (score kind bits) ≡ drawing w h p t c
     unfolding taken
@@ -310,42 +318,59 @@ module _ (kind : Kind) (bits : ℕ) where
     unfolding given
     paint-given = refl
 
-  pub places-passed : lowest (shapeTests kind bits) ≡ 0 → badPlaces kind ≡ false
-  places-passed e = lowest-none (placeIf (badPlaces kind)) (opacityIf (not (within (ofBits binary32 bits))) ∷ []) tt e .0
+  module _ {s : State} {t c tab : List Float} (hold : Holds s t c tab) {a : Float} (ea : a ≡ ofBits binary32 bits) where
+    -- the number of a request that has these tests, and needs a picture
+    number-of : (q : Request) → refusal nothing q ≡ malformed
+        → refusal (drawing (s .w) (s .h) (s .painted) (take (pictureSize s) t) (take (pictureSize s) c)) q ≡ lowest (shapeTests kind bits) → refusal (sessionOf s t c) q ≡ shapeRefusal s kind a
+    unfolding sessionOf
+    number-of q e f = by (eqb (s .w) 0)
+      where
+        by : (b : Bool) → refusal (cond b nothing (drawing (s .w) (s .h) (s .painted) (take (pictureSize s) t) (take (pictureSize s) c))) q ≡ cond b malformed (lowest (placeIf (badPlaces kind) ∷ opacityIf (not (within a)) ∷ []))
+        by true = e
+        by false = f ∙ ap (λ (x : Float). lowest (placeIf (badPlaces kind) ∷ opacityIf (not (within x)) ∷ [])) (sym ea)
 
-  module _ (s : State) (t c tab : List Float) (hold : Holds s t c tab) (d : s .w ≡ 0 → ⊥) (a : Float) (ea : a ≡ ofBits binary32 bits) where
+    pub score-number : refusal (sessionOf s t c) (score kind bits) ≡ shapeRefusal s kind a
+    score-number = number-of (score kind bits) score-first (score-tests (s .w) (s .h) (s .painted) (take (pictureSize s) t) (take (pictureSize s) c))
+
+    pub paint-number : refusal (sessionOf s t c) (paint kind bits) ≡ shapeRefusal s kind a
+    paint-number = number-of (paint kind bits) paint-first (paint-tests (s .w) (s .h) (s .painted) (take (pictureSize s) t) (take (pictureSize s) c))
+
+    pub shape-refused : {q : Request} {m : ℕ} {r : scores.Scored} → refusal (sessionOf s t c) q ≡ shapeRefusal s kind a → r ≡ weighedOf s kind a tab → r ≡ scored.Refused m
+        → StepTakes s q t c tab (stepped s (Refused m)) t c tab
+    shape-refused {q} {m} {r} f e g =
+        let z = refused-of (shapeRefusal s kind a) m (finalized (spanSums kind (s .w) (s .h) (take (tableSize s) tab)) a) r e g in
+        refuse s q t c tab hold m (f ∙ z .0) (z .1)
+
+    -- a shape that has a score: there is a picture, and the shape has its places
+    module _ {sc : Score} {r : scores.Scored} (e : r ≡ weighedOf s kind a tab) (f : r ≡ scored.Done sc) where
+      weighed-as : (shapeRefusal s kind a ≡ 0) × (sc ≡ finalized (spanSums kind (s .w) (s .h) (take (tableSize s) tab)) a)
+      weighed-as = done-of (shapeRefusal s kind a) (finalized (spanSums kind (s .w) (s .h) (take (tableSize s) tab)) a) sc r e f
+
+      pub shape-drawn : s .w ≡ 0 → ⊥
+      shape-drawn z = let n : malformed ≡ 0 = sym (simp (eq-eqb (s .w) 0 z)) ∙ weighed-as .0 in omega arith
+
+      pub shape-placed : badPlaces kind ≡ false
+      shape-placed = lowest-none (placeIf (badPlaces kind)) (opacityIf (not (within a)) ∷ []) tt (simp (ne-eqb (s .w) 0 shape-drawn) at (weighed-as .0)) .0
+
     -- the score from the table held is that of the pictures
-    score-so : (sc : Score) → sc ≡ finalized (spanSums kind (s .w) (s .h) (take (tableSize s) tab)) a
+    score-so : (s .w ≡ 0 → ⊥) → (sc : Score) → sc ≡ finalized (spanSums kind (s .w) (s .h) (take (tableSize s) tab)) a
         → sc ≡ scoreOf kind bits (s .w) (s .h) (take (pictureSize s) t) (take (pictureSize s) c)
     unfolding scoreOf
-    score-so sc e =
+    score-so d sc e =
         e
         ∙ ap (finalized (spanSums kind (s .w) (s .h) (take (tableSize s) tab))) ea
         ∙ ap (λ z. finalized z (ofBits binary32 bits)) (table-sums kind (s .w) (s .h) (take (pictureSize s) t) (take (pictureSize s) c) (take (tableSize s) tab) (sheet-of s t c tab hold d .0 .sums))
 
-    -- the refusal
-    pub shape-refused : (q : Request) (m : ℕ) (v : Score) (r : scores.Scored)
-        → refusal (drawing (s .w) (s .h) (s .painted) (take (pictureSize s) t) (take (pictureSize s) c)) q ≡ lowest (shapeTests kind bits)
-        → r ≡ answered (lowest (placeIf (badPlaces kind) ∷ opacityIf (not (within a)) ∷ [])) v → r ≡ scored.Refused m → StepTakes s q t c tab (stepped s (Refused m)) t c tab
-    shape-refused q m v r f e g =
-        let z = refused-of (lowest (placeIf (badPlaces kind) ∷ opacityIf (not (within a)) ∷ [])) m v r e g in
-        refuse-drawn s q t c tab hold m d (f ∙ ap (λ (x : Float). lowest (placeIf (badPlaces kind) ∷ opacityIf (not (within x)) ∷ [])) (sym ea) ∙ z .0) (z .1)
-
-    pub score-done : (sc : Score) (v : Values) (r : scores.Scored)
-        → r ≡ answered (lowest (placeIf (badPlaces kind) ∷ opacityIf (not (within a)) ∷ [])) (finalized (spanSums kind (s .w) (s .h) (take (tableSize s) tab)) a)
+    pub score-done : {sc : Score} {v : Values} {r : scores.Scored} → r ≡ weighedOf s kind a tab
         → r ≡ scored.Done sc → v ≡ valuesOf sc → StepTakes s (score kind bits) t c tab (stepped s (Scored v)) t c tab
-    score-done sc v r e f k =
-        let z = done-of (lowest (placeIf (badPlaces kind) ∷ opacityIf (not (within a)) ∷ [])) (finalized (spanSums kind (s .w) (s .h) (take (tableSize s) tab)) a) sc r e f in
+    score-done {sc} e f k =
+        let z = weighed-as e f in
+        let d = shape-drawn e f in
         let now : sessionOf s t c ≡ drawing (s .w) (s .h) (s .painted) (take (pictureSize s) t) (take (pictureSize s) c) = session-some s t c d in
-        let goes =
-        taken-goes (sessionOf s t c) (score kind bits)
-        (ap (λ (S : Session). refusal S (score kind bits)) now
-        ∙ score-number (s .w) (s .h) (s .painted) (take (pictureSize s) t) (take (pictureSize s) c)
-        ∙ ap (λ (x : Float). lowest (placeIf (badPlaces kind) ∷ opacityIf (not (within x)) ∷ [])) (sym ea)
-        ∙ z .0) in
+        let goes = taken-goes (sessionOf s t c) (score kind bits) (score-number ∙ z .0) in
         record {
           answered =
-              ap (λ (x : Values). Scored x) (k ∙ ap valuesOf (score-so sc (z .1)))
+              ap (λ (x : Values). Scored x) (k ∙ ap valuesOf (score-so d sc (z .1)))
               ∙ sym
               (goes .1
               ∙ ap (λ (S : Session). given S (score kind bits)) now
@@ -362,12 +387,6 @@ module _ (kind : Kind) (bits : ℕ) where
           table-rest = refl;
         }
 
-    -- a shape that is not refused has its places
-    pub shape-placed : (sc v : Score) (r : scores.Scored) → r ≡ answered (lowest (placeIf (badPlaces kind) ∷ opacityIf (not (within a)) ∷ [])) v → r ≡ scored.Done sc → badPlaces kind ≡ false
-    shape-placed sc v r e f =
-        let z = done-of (lowest (placeIf (badPlaces kind) ∷ opacityIf (not (within a)) ∷ [])) v sc r e f in
-        lowest-none (placeIf (badPlaces kind)) (opacityIf (not (within a)) ∷ []) tt (z .0) .0
-
     as-painted : (sc : Score) → sc ≡ scoreOf kind bits (s .w) (s .h) (take (pictureSize s) t) (take (pictureSize s) c)
         → painted kind a (sc .red) (sc .green) (sc .blue) (s .w) (s .h) (take (pictureSize s) c) ≡ paintedOf kind bits (s .w) (s .h) (take (pictureSize s) t) (take (pictureSize s) c)
     unfolding paintedOf
@@ -375,23 +394,18 @@ module _ (kind : Kind) (bits : ℕ) where
         ap (λ (l : Score). painted kind a (l .red) (l .green) (l .blue) (s .w) (s .h) (take (pictureSize s) c)) i
         ∙ ap (λ (l : Float). painted kind l (scoreOf kind bits (s .w) (s .h) (take (pictureSize s) t) (take (pictureSize s) c) .red) (scoreOf kind bits (s .w) (s .h) (take (pictureSize s) t) (take (pictureSize s) c) .green) (scoreOf kind bits (s .w) (s .h) (take (pictureSize s) t) (take (pictureSize s) c) .blue) (s .w) (s .h) (take (pictureSize s) c)) ea
 
-    pub paint-done : (sc : Score) (v : Values) (r : scores.Scored) (x z : List Float) (total : Float) (n : ℕ)
-        → r ≡ answered (lowest (placeIf (badPlaces kind) ∷ opacityIf (not (within a)) ∷ [])) (finalized (spanSums kind (s .w) (s .h) (take (tableSize s) tab)) a)
+    pub paint-done : {sc : Score} {v : Values} {r : scores.Scored} {x z : List Float} {total : Float} {n : ℕ} → r ≡ weighedOf s kind a tab
         → r ≡ scored.Done sc → v ≡ valuesOf sc → x ≡ painted kind a (sc .red) (sc .green) (sc .blue) (s .w) (s .h) (take (pictureSize s) c)
         → Sheet (s .w) (s .h) (take (pictureSize s) t) x z → total ≡ totalOf (take (pictureSize s) t) x → n ≡ toBits binary64 total
         → StepTakes s (paint kind bits) t c tab (stepped (record { w = s .w; h = s .h; painted = true }) (Painted v n)) t (x ++ drop (pictureSize s) c) (z ++ drop (tableSize s) tab)
-    paint-done sc v r x z total n e f k g sheet o m =
-        let y = done-of (lowest (placeIf (badPlaces kind) ∷ opacityIf (not (within a)) ∷ [])) (finalized (spanSums kind (s .w) (s .h) (take (tableSize s) tab)) a) sc r e f in
+    paint-done {sc} {x = x} {z = z} {n = n} e f k g sheet o m =
+        let y = weighed-as e f in
+        let d = shape-drawn e f in
         let u = sheet .sides in
         let now : sessionOf s t c ≡ drawing (s .w) (s .h) (s .painted) (take (pictureSize s) t) (take (pictureSize s) c) = session-some s t c d in
-        let same : sc ≡ scoreOf kind bits (s .w) (s .h) (take (pictureSize s) t) (take (pictureSize s) c) = score-so sc (y .1) in
+        let same : sc ≡ scoreOf kind bits (s .w) (s .h) (take (pictureSize s) t) (take (pictureSize s) c) = score-so d sc (y .1) in
         let new : x ≡ paintedOf kind bits (s .w) (s .h) (take (pictureSize s) t) (take (pictureSize s) c) = g ∙ as-painted sc same in
-        let goes =
-        taken-goes (sessionOf s t c) (paint kind bits)
-        (ap (λ (S : Session). refusal S (paint kind bits)) now
-        ∙ paint-number (s .w) (s .h) (s .painted) (take (pictureSize s) t) (take (pictureSize s) c)
-        ∙ ap (λ (q : Float). lowest (placeIf (badPlaces kind) ∷ opacityIf (not (within q)) ∷ [])) (sym ea)
-        ∙ y .0) in
+        let goes = taken-goes (sessionOf s t c) (paint kind bits) (paint-number ∙ y .0) in
         let p = picture-room (s .w) (s .h) (u .w-high) (u .h-high) in
         let q = table-room (s .w) (s .h) (u .w-high) (u .h-high) in
         let fx = front (pictureSize s) c x (sheet .canvas-size) in

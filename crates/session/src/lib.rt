@@ -6,7 +6,7 @@ ghost use lib.ListN.{length, take, drop};
 ghost use Rattle.frame.specs.declared.Answer.the-variants.{Refused};
 ghost use Rattle.session.specs.Session.{badSides, valuesOf};
 ghost use Rattle.held.specs.Asking.{Carried};
-ghost use Rattle.session.specs.Held.{Holds, stepped, StepTakes, StepSays};
+ghost use Rattle.session.specs.Held.{Sides, Holds, weighedOf, stepped, StepTakes, StepSays};
 use cover::Kind;
 use frame::Answer;
 use frame::Values;
@@ -148,6 +148,20 @@ fn step_row(
     }
 }
 
+// The score of a shape on the picture held, or the number of the refusal.
+fn weighed(s: State, kind: Kind, opacity: f32, table: &[f64]) -> Scored
+    requires { ⌜ ((s .w ≡ 0 → ⊥) → Sides (s .w) (s .h)) × (length (now table) ≡ 4080) ⌝ }
+    ensures { λ r. ⌜ r ≡ weighedOf s kind opacity (now (table .entry)) ⌝ }
+{
+    let w = s.w;
+    let h = s.h;
+    if w == 0 {
+        return Scored::Refused(MALFORMED);
+    }
+    let k = h * (w + 1) * 15;
+    sheet::weigh(kind, opacity, w, h, &table[0..k])
+}
+
 fn step_score(
     s: State,
     kind: Kind,
@@ -159,13 +173,7 @@ fn step_score(
     requires { ⌜ Holds s (now target) (now canvas) (now table) ⌝ }
     ensures { λ r. ⌜ StepTakes s (score kind opacity) (now (target .entry)) (now (canvas .entry)) (now (table .entry)) r (now (target .entry)) (now (canvas .entry)) (now (table .entry)) ⌝ }
 {
-    let w = s.w;
-    let h = s.h;
-    if w == 0 {
-        return refused(s, MALFORMED);
-    }
-    let k = h * (w + 1) * 15;
-    let scored = sheet::weigh(kind, float::of_bits32(opacity), w, h, &table[0..k]);
+    let scored = weighed(s, kind, float::of_bits32(opacity), table);
     match scored {
         Scored::Done(score) => Stepped {
             state: s,
@@ -188,13 +196,10 @@ fn step_paint(
 {
     let w = s.w;
     let h = s.h;
-    if w == 0 {
-        return refused(s, MALFORMED);
-    }
     let n = h * w * 3;
     let k = h * (w + 1) * 15;
     let a = float::of_bits32(opacity);
-    let scored = sheet::weigh(kind, a, w, h, &table[0..k]);
+    let scored = weighed(s, kind, a, table);
     match scored {
         Scored::Done(score) => {
             let total = sheet::paint(

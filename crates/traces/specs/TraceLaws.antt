@@ -1,11 +1,10 @@
 -- Laws: the table of shapes: how its columns are put in, kept and moved; and rows painted by it are those of the rule.
 use mathlib.Core.Path.{_≡_, refl, sym, ap, _∙_, subst}
 use mathlib.Core.Bool.{Bool, true, false, cond}
-use mathlib.Core.Logic.{_⊎_, inl, inr, ⊎-elim}
+use mathlib.Core.Logic.{inl, inr, ⊎-elim}
 use mathlib.Core.List.{List, [], _∷_, _++_, append-assoc}
-use Prim.Native.Nat.{ℕ, zero, suc, _+_, _-_, _*_, _/_, _%_, _≤_, _<_}
+use Prim.Native.Nat.{ℕ, suc, _+_, _-_, _*_, _/_, _%_, _≤_, _<_}
 use native.Mathlib.Nat.{mod-lt, zero-mul, mul-le-mul-right}
-use native.Mathlib.Numerals.{add-one}
 use native.Mathlib.Omega.{arith}
 use lib.Dec.{T}
 use lib.Ieee.{Float, nan, binary32}
@@ -46,12 +45,12 @@ use Rattle.traces.specs.DrawingLaws.{holds-not, painted-on-same, part-sa
 use Rattle.traces.specs.Traces.{Moved, ColumnPut, leftAt, rightAt, brushAt, SameColumn, Column, Traced, Tabled, ColumnDropped, BrushDropped, SameRows, RowPainted}
 
 -- ---- elements moved up by g, from `from` up to k
-module _ {A : Type 0} (g from : ℕ) (d : A) (old : List A) where
+module _ {A : Type 0} {g from : ℕ} {d : A} {old : List A} where
   pub moved-none : Moved g from d old from old
   moved-none = record { long = refl; moved = λ m a b. absurd (omega arith); before = λ m a. refl; after = λ m a. refl }
 
-  pub moved-more : (k : ℕ) (new : List A) → 0 < g → from ≤ k → k < length old → Moved g from d old k new → Moved g from d old (k + 1) (set new k (getD new (k + g) d))
-  moved-more k new some low inside s = record {
+  pub moved-more : {k : ℕ} {new : List A} → Moved g from d old k new → 0 < g → from ≤ k → k < length old → Moved g from d old (k + 1) (set new k (getD new (k + g) d))
+  moved-more {k} {new} s some low inside = record {
     long = length-set new k v ∙ s .long;
     moved = λ m a b. ⊎-elim (λ (here : k ≤ m). last m (omega arith)) (λ (passed : m < k). getD-set-other new k m v d (λ e. omega arith) ∙ s .moved m a passed) (le-or-lt k m);
     before = λ m a. getD-set-other new k m v d (λ e. omega arith) ∙ s .before m a;
@@ -67,6 +66,9 @@ module _ {A : Type 0} (g from : ℕ) (d : A) (old : List A) where
           ∙ getD-set-same new k v d (omega (arith, s .long))
           ∙ s .after (k + g) (omega arith)
           ∙ ap (λ (n : ℕ). getD old (n + g) d) (sym e)
+
+  pub moved-to : {k to : ℕ} {new : List A} → Moved g from d old k new → k ≤ to → to ≤ k → Moved g from d old to new
+  moved-to {k} {to} {new} s h l = subst (λ (i : ℕ). Moved g from d old i new) {x = k} {y = to} (omega arith) s
 
 -- ---- a column, row by row
 -- a place tells its column

@@ -1,5 +1,5 @@
 -- Four pixels, one after another.
-use mathlib.Core.Path.{refl, _∙_}
+use mathlib.Core.Path.{refl}
 use Rattle.brush.specs.BrushLaws.{done-none, done-more, done-all}
 use native.Mathlib.Omega.{arith}
 use borrow.Author.Needs.{needs}
@@ -64,13 +64,10 @@ returns c =
     let p2 = p3 .before .before .before .before in
     let p1 = p2 .before .before .before .before in
     let st = p1 .before .before .before in
-    let b = st .args .brush in
-    let l = st .args .four .now in
-    let s1 = done-more b l l (p1 .blend-pixel .last .1 .0) 0 1 0 3 (done-none b l) refl refl (omega (arith, st .pre)) (p1 .blend-pixel .ensures) in
-    let s2 = done-more b l _ (p2 .blend-pixel2 .last .1 .0) 1 1 3 6 s1 refl refl (omega (arith, st .pre)) (p2 .blend-pixel2 .ensures) in
-    let s3 = done-more b l _ (p3 .blend-pixel3 .last .1 .0) 2 1 6 9 s2 refl refl (omega (arith, st .pre)) (p3 .blend-pixel3 .ensures) in
-    let s4 = done-more b l _ (p4 .blend-pixel4 .last .1 .0) 3 1 9 12 s3 refl refl (omega (arith, st .pre)) (p4 .blend-pixel4 .ensures) in
-    s4 ∙ done-all b l 4 (omega (arith, st .pre))
+    let s1 = done-more 1 0 3 (done-none {old = st .args .four .now}) refl refl (omega arith) (omega (arith, st .pre)) (p1 .blend-pixel .ensures) in
+    let s2 = done-more 2 3 6 s1 refl refl (omega arith) (omega (arith, st .pre)) (p2 .blend-pixel2 .ensures) in
+    let s3 = done-more 3 6 9 s2 refl refl (omega arith) (omega (arith, st .pre)) (p3 .blend-pixel3 .ensures) in
+    done-all (done-more 4 9 12 s3 refl refl (omega arith) (omega (arith, st .pre)) (p4 .blend-pixel4 .ensures)) (omega (arith, st .pre))
 
 pub blend-four-spec : {M : Type 1} → statement M
 blend-four-spec =

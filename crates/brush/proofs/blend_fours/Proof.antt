@@ -1,23 +1,19 @@
 -- The groups of four passed are done.
-use mathlib.Core.Path.{_≡_, sym, ap, _∙_}
 use Prim.Native.Nat.{_+_, _-_, _*_, _≤_}
-use lib.ListN.{length}
-use Rattle.brush.specs.BrushLaws.{doneTo, done-none, done-more, done-all, length-done}
+use Rattle.brush.specs.BrushLaws.{Done, done-none, done-more, done-all}
 use borrow.Author.Needs.{needs}
 use native.Mathlib.Omega.{arith}
 use Rattle.brush.proofs.blend_fours.Statement.{statement}
 use Rattle.brush.proofs.blend_fours.Tie as tie
 
 abbrev Inv-loop : tie.InvT-loop
-Inv-loop brush n run₀ k₀ run k = (k ≤ n) × (run ≡ doneTo brush run₀ (k * 4)) × (length run ≡ n * 12)
+Inv-loop brush n run₀ k₀ run k = (k ≤ n) × Done brush run₀ (k * 4) run
 
 abbrev μ-loop : tie.MeasureT-loop
 μ-loop brush n run₀ k₀ run k = n - k
 
 loop-holds : tie.Need-loop-holds Inv-loop μ-loop
-loop-holds c =
-    let a = c .before in
-    (omega arith, done-none (a .args .brush) (a .args .run .now), a .pre)
+loop-holds c = (omega arith, done-none)
 
 mul-a : tie.Need-mul-a Inv-loop μ-loop
 mul-a c = search needs
@@ -48,23 +44,16 @@ loop-less c = search needs
 
 loop-again : tie.Need-loop-again Inv-loop μ-loop
 loop-again c =
+    let s = c .before .before .before .before .before .before .before in
     let l = c .before .before .before .before .before .loop in
-    let st = c .before .before .before .before .before .before .before in
-    let b = st .args .brush in
-    let old = st .args .run .now in
-    let i = l .k in
-    let more : i * 4 + 4 ≡ (i + 1) * 4 = omega arith in
-    let step = done-more b old (l .run) (c .before .before .blend-four .last .1 .0) (i * 4) 4 (i * 12) (i * 12 + 12) (l .inv .1) (omega arith) (omega arith) (omega (arith, st .pre)) (c .before .before .blend-four .ensures) ∙ ap (doneTo b old) more in
-    (omega arith, step, ap length step ∙ length-done b old ((i + 1) * 4) (omega (arith, st .pre)) ∙ st .pre)
+    let k = l .k in
+    (omega arith, done-more ((k + 1) * 4) (k * 12) (k * 12 + 12) (l .inv .1) (omega arith) (omega arith) (omega arith) (omega (arith, s .pre)) (c .before .before .blend-four .ensures))
 
 same-length : tie.Need-same-length Inv-loop μ-loop
-same-length c = c .before .loop .inv .2 ∙ sym (c .before .before .before .pre)
+same-length c = c .before .loop .inv .1 .long
 
 returns : tie.Need-returns Inv-loop μ-loop
-returns c =
-    let l = c .before .loop in
-    let st = c .before .before .before in
-    l .inv .1 ∙ done-all (st .args .brush) (st .args .run .now) (l .k * 4) (omega (arith, st .pre))
+returns c = done-all (c .before .loop .inv .1) (omega (arith, c .before .before .before .pre))
 
 pub blend-fours-spec : {M : Type 1} → statement M
 blend-fours-spec =

@@ -1,6 +1,6 @@
 -- The groups of four, then the pixels that are left.
-use mathlib.Core.Path.{refl, _∙_}
-use Prim.Native.Nat.{_+_, _-_, _*_, _/_}
+use mathlib.Core.Path.{refl}
+use Prim.Native.Nat.{_*_, _/_}
 use Rattle.brush.specs.BrushLaws.{done-none, done-more, done-all}
 use native.Mathlib.Omega.{arith}
 use borrow.Author.Needs.{needs}
@@ -54,12 +54,10 @@ returns c =
     let p2 = c .before .before in
     let p1 = p2 .before .before .before .before in
     let st = p1 .before .before .before in
-    let b = st .args .brush in
-    let l = st .args .run .now in
     let n = st .args .n in
-    let s1 = done-more b l l (p1 .blend-fours .last .1 .1 .0) 0 (n / 4 * 4) 0 (n / 4 * 12) (done-none b l) refl (omega arith) (omega (arith, st .pre)) (p1 .blend-fours .ensures) in
-    let s2 = done-more b l _ (p2 .blend-pixels .last .1 .1 .0) (0 + n / 4 * 4) (n - n / 4 * 4) (n / 4 * 12) (n * 3) s1 (omega arith) (omega arith) (omega (arith, st .pre)) (p2 .blend-pixels .ensures) in
-    s2 ∙ done-all b l (0 + n / 4 * 4 + (n - n / 4 * 4)) (omega (arith, st .pre))
+    let s1 = done-more (n / 4 * 4) 0 (n / 4 * 12) (done-none {old = st .args .run .now}) refl (omega arith) (omega arith) (omega (arith, st .pre)) (p1 .blend-fours .ensures) in
+    let s2 = done-more n (n / 4 * 12) (n * 3) s1 (omega arith) refl (omega arith) (omega (arith, st .pre)) (p2 .blend-pixels .ensures) in
+    done-all s2 (omega (arith, st .pre))
 
 pub blend-run-spec : {M : Type 1} → statement M
 blend-run-spec =

@@ -1,21 +1,14 @@
 -- `session::step_row` meets its contract: each refusal by its test, then the row and the table afresh.
-use mathlib.Core.Path.{_≡_, refl, sym, ap, _∙_}
-use Prim.Native.Nat.{_+_, _-_, _*_, _≤_}
+use mathlib.Core.Path.{_≡_, sym, ap, _∙_}
+use Prim.Native.Nat.{_+_, _-_}
 use native.Mathlib.Nat.{sub-zero}
 use native.Mathlib.Omega.{arith}
 use lib.ListN.{length, take, drop}
 use Rattle.frame.specs.Frames.{row}
-use Rattle.session.specs.SessionLaws.{small, sheet-of, picture-room, table-room, part-length, row-bytes, result-as, refuse-first, refuse-drawn, row-first, row-size, row-past, row-late, row-done}
+use Rattle.session.specs.SessionLaws.{sheet-of, rooms, row-bytes, result-as, refuse-first, refuse-drawn, row-first, row-size, row-past, row-late, row-done}
 use borrow.Author.Needs.{needs}
 use Rattle.session.proofs.step_row.Statement.{statement}
 use Rattle.session.proofs.step_row.Tie as tie
-
-room : (c : tie.Else4)
-    → (c .before .before .before .before .before .before .before .before .args .s .h * c .before .before .before .before .before .before .before .before .args .s .w * 3 ≤ 768) × (c .before .before .before .before .before .before .before .before .args .s .h * (c .before .before .before .before .before .before .before .before .args .s .w + 1) * 15 ≤ 4080)
-room c =
-    let s = c .before .before .before .before .before .before .before .before in
-    let m = small (s .args .s) (s .args .target .now) (s .args .canvas .now) (s .args .table .now) (s .pre .0) in
-    (picture-room (s .args .s .w) (s .args .s .h) (m .0) (m .1), table-room (s .args .s .w) (s .args .s .h) (m .0) (m .1))
 
 refused-requires : tie.Need-refused-requires
 refused-requires c κs = search needs
@@ -28,7 +21,7 @@ returns c =
     (refuse-first (a .s) (row (a .y) (take (a .n) (drop 2 (a .bytes .now)))) (a .target .now) (a .canvas .now) (a .table .now) (s .pre .0) (c .before .if1 .taken) (row-first (a .y) (take (a .n) (drop 2 (a .bytes .now)))))
 
 mul-if2 : tie.Need-mul-if2
-mul-if2 c = let s = c .before .before .before .before .before in let m = small (s .args .s) _ _ _ (s .pre .0) in omega (arith, m .0)
+mul-if2 c = omega (arith, rooms (c .before .before .before .before .before .pre .0) .2)
 
 refused-requires-2 : tie.Need-refused-requires-2
 refused-requires-2 c κs = search needs
@@ -67,19 +60,19 @@ add-e : tie.Need-add-e
 add-e c = search needs
 
 mul-m : tie.Need-mul-m
-mul-m c = let p = room c in omega (arith, p .0, p .1)
+mul-m c = let p = rooms (c .before .before .before .before .before .before .before .before .pre .0) in omega (arith, p .0, p .1)
 
 mul-m-2 : tie.Need-mul-m-2
-mul-m-2 c = let p = room c in omega (arith, p .0, p .1)
+mul-m-2 c = let p = rooms (c .before .before .before .before .before .before .before .before .pre .0) in omega (arith, p .0, p .1)
 
 add-k : tie.Need-add-k
 add-k c = search needs
 
 mul-k : tie.Need-mul-k
-mul-k c = let p = room c in omega (arith, p .0, p .1)
+mul-k c = let p = rooms (c .before .before .before .before .before .before .before .before .pre .0) in omega (arith, p .0, p .1)
 
 mul-k-2 : tie.Need-mul-k-2
-mul-k-2 c = let p = room c in omega (arith, p .0, p .1)
+mul-k-2 c = let p = rooms (c .before .before .before .before .before .before .before .before .pre .0) in omega (arith, p .0, p .1)
 
 sub-set-row : tie.Need-sub-set-row
 sub-set-row c = search needs
@@ -97,7 +90,7 @@ part-set-row-start-2 : tie.Need-part-set-row-start-2
 part-set-row-start-2 c = search needs
 
 part-set-row-end-2 : tie.Need-part-set-row-end-2
-part-set-row-end-2 c = omega (arith, room (c .before) .0, c .before .before .before .before .before .before .before .before .before .pre .0 .target-room)
+part-set-row-end-2 c = let h = c .before .before .before .before .before .before .before .before .before .pre .0 in omega (arith, rooms h .0, h .target-room)
 
 sub-set-row-3 : tie.Need-sub-set-row-3
 sub-set-row-3 c = search needs
@@ -106,7 +99,7 @@ part-set-row-start-3 : tie.Need-part-set-row-start-3
 part-set-row-start-3 c = search needs
 
 part-set-row-end-3 : tie.Need-part-set-row-end-3
-part-set-row-end-3 c = omega (arith, room (c .before .before) .0, c .before .before .before .before .before .before .before .before .before .before .pre .0 .canvas-room)
+part-set-row-end-3 c = let h = c .before .before .before .before .before .before .before .before .before .before .pre .0 in omega (arith, rooms h .0, h .canvas-room)
 
 sub-set-row-4 : tie.Need-sub-set-row-4
 sub-set-row-4 c = search needs
@@ -115,7 +108,7 @@ part-set-row-start-4 : tie.Need-part-set-row-start-4
 part-set-row-start-4 c = search needs
 
 part-set-row-end-4 : tie.Need-part-set-row-end-4
-part-set-row-end-4 c = omega (arith, room (c .before .before .before) .1, c .before .before .before .before .before .before .before .before .before .before .before .pre .0 .table-room)
+part-set-row-end-4 c = let h = c .before .before .before .before .before .before .before .before .before .before .before .pre .0 in omega (arith, rooms h .1, h .table-room)
 
 set-row-requires : tie.Need-set-row-requires
 set-row-requires c κs =

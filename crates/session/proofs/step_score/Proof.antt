@@ -1,62 +1,14 @@
 -- `session::step_score` meets its contract: the table held is that of the pictures.
-use mathlib.Core.Path.{_≡_, refl, sym, ap, _∙_}
-use Prim.Native.Nat.{_+_, _-_, _*_, _≤_}
-use native.Mathlib.Nat.{sub-zero}
-use native.Mathlib.Omega.{arith}
-use lib.ListN.{length, take, drop}
-use Rattle.frame.specs.Frames.{score}
-use Rattle.session.specs.SessionLaws.{small, sheet-of, picture-room, table-room, part-length, result-as, refuse-first, score-first, score-number, shape-refused, score-done}
+use Rattle.session.specs.SessionLaws.{sides-held, result-as, score-number, shape-refused, score-done}
 use borrow.Author.Needs.{needs}
 use Rattle.session.proofs.step_score.Statement.{statement}
 use Rattle.session.proofs.step_score.Tie as tie
 
-room : (c : tie.Else1)
-    → (c .before .before .before .before .args .s .h * c .before .before .before .before .args .s .w * 3 ≤ 768) × (c .before .before .before .before .args .s .h * (c .before .before .before .before .args .s .w + 1) * 15 ≤ 4080)
-room c =
-    let s = c .before .before .before .before in
-    let m = small (s .args .s) (s .args .target .now) (s .args .canvas .now) (s .args .table .now) (s .pre) in
-    (picture-room (s .args .s .w) (s .args .s .h) (m .0) (m .1), table-room (s .args .s .w) (s .args .s .h) (m .0) (m .1))
-
-refused-requires : tie.Need-refused-requires
-refused-requires c κs = search needs
-
-returns : tie.Need-returns
-returns c =
-    let s = c .before .before .before .before .before in
-    let a = s .args in
-    result-as (c .refused .ensures)
-    (refuse-first (a .s) (score (a .kind) (a .opacity)) (a .target .now) (a .canvas .now) (a .table .now) (s .pre) (c .before .if1 .taken) (score-first (a .kind) (a .opacity)))
-
-add-k : tie.Need-add-k
-add-k c =
-    let s = c .before .before .before .before in
-    omega (arith, small (s .args .s) (s .args .target .now) (s .args .canvas .now) (s .args .table .now) (s .pre) .0)
-
-mul-k : tie.Need-mul-k
-mul-k c = let p = room c in omega (arith, p .0, p .1)
-
-mul-k-2 : tie.Need-mul-k-2
-mul-k-2 c = let p = room c in omega (arith, p .0, p .1)
-
 of-bits32-requires : tie.Need-of-bits32-requires
 of-bits32-requires c κs = search needs
 
-sub-weigh : tie.Need-sub-weigh
-sub-weigh c = search needs
-
-part-weigh-start : tie.Need-part-weigh-start
-part-weigh-start c = search needs
-
-part-weigh-end : tie.Need-part-weigh-end
-part-weigh-end c = omega (arith, room (c .before) .1, c .before .before .before .before .before .pre .table-room)
-
-weigh-requires : tie.Need-weigh-requires
-weigh-requires c κs =
-    let s = c .before .before .before .before .before .before in
-    let a = s .args in
-    let e = c .before .before in
-    let d = sheet-of (a .s) (a .target .now) (a .canvas .now) (a .table .now) (s .pre) (e .if1 .left) in
-    (d .0 .sides, part-length (a .s .h * (a .s .w + 1) * 15) (a .table .now) (omega (arith, room e .1, s .pre .table-room)))
+weighed-requires : tie.Need-weighed-requires
+weighed-requires c κs = let h = c .before .before .before .before .pre in (sides-held h, h .table-room)
 
 enum-known-scored : tie.Need-enum-known-scored
 enum-known-scored c = search needs
@@ -67,41 +19,33 @@ values-requires c κs = search needs
 enum-known-scored-2 : tie.Need-enum-known-scored-2
 enum-known-scored-2 c = search needs
 
-refused-requires-2 : tie.Need-refused-requires-2
-refused-requires-2 c κs = search needs
+refused-requires : tie.Need-refused-requires
+refused-requires c κs = search needs
+
+returns : tie.Need-returns
+returns c =
+    let w = c .before .before .before .before in
+    let s = w .before .before .before .before .before in
+    let d = c .before .before .scored .given in
+    score-done (s .args .kind) (s .args .opacity) (s .pre) (w .before .of-bits32 .ensures) (w .weighed .ensures) (d .1) (c .values .ensures)
 
 returns-2 : tie.Need-returns-2
 returns-2 c =
-    let s = c .before .before .before .before .before .before .before .before .before .before .before in
-    let a = s .args in
-    score-done (a .kind) (a .opacity) (a .s) (a .target .now) (a .canvas .now) (a .table .now) (s .pre) (c .before .before .before .before .before .before .before .if1 .left) _ (c .before .before .before .before .before .before .of-bits32 .ensures)
-    (c .before .before .scored .given .0 .0) _ _ (simp sub-zero at (c .before .before .before .before .weigh .ensures)) (c .before .before .scored .given .1) (c .values .ensures)
-
-returns-3 : tie.Need-returns-3
-returns-3 c =
-    let s = c .before .before .before .before .before .before .before .before .before .before .before in
-    let a = s .args in
-    result-as (c .refused2 .ensures)
-    (shape-refused (a .kind) (a .opacity) (a .s) (a .target .now) (a .canvas .now) (a .table .now) (s .pre) (c .before .before .before .before .before .before .before .if1 .left) _ (c .before .before .before .before .before .before .of-bits32 .ensures)
-    (score (a .kind) (a .opacity)) _ _ _ (score-number (a .kind) (a .opacity) (a .s .w) (a .s .h) (a .s .painted) _ _) (c .before .before .before .before .weigh .ensures) (c .before .before .scored2 .given .1))
+    let w = c .before .before .before .before in
+    let s = w .before .before .before .before .before in
+    let a = w .before .of-bits32 .ensures in
+    result-as (c .refused .ensures)
+    (shape-refused (s .args .kind) (s .args .opacity) (s .pre) a (score-number (s .args .kind) (s .args .opacity) (s .pre) a) (w .weighed .ensures) (c .before .before .scored2 .given .1))
 
 pub step-score-spec : {M : Type 1} → statement M
 step-score-spec =
     tie.close
     (tie.spec
-    refused-requires
-    returns
-    add-k
-    mul-k
-    mul-k-2
     of-bits32-requires
-    sub-weigh
-    part-weigh-start
-    part-weigh-end
-    weigh-requires
+    weighed-requires
     enum-known-scored
     values-requires
     enum-known-scored-2
-    refused-requires-2
-    returns-2
-    returns-3)
+    refused-requires
+    returns
+    returns-2)

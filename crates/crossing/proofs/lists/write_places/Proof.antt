@@ -1,38 +1,37 @@
 -- The loop carries what is written so far.
-use mathlib.Core.Path.{_≡_, refl, ap, _∙_}
-use Prim.Native.Nat.{_≤_, _<_, _-_, _*_, _/_, _%_}
+use mathlib.Core.Path.{_≡_, ap, _∙_}
+use Prim.Native.Nat.{ℕ, _<_, _-_, _*_, _/_, _%_}
 use native.Mathlib.Omega.{arith}
-use lib.ListN.{length, take, length-map, length-set}
-use Rattle.shapes.specs.declared.Shape.{Shape}
+use lib.ListN.{length, length-map}
 use mir.Facts.{toZ-ofZ}
-use mir.Syntax.{w32}
-use mir.Val.{toZ, ofZ}
-use lib.IntN.{pos}
+use lib.IntN.{ℤ}
+use Rattle.shapes.specs.declared.Shape.{Shape}
+use Rattle.shapes.specs.declared.Shapes.{Shapes}
 use Rattle.shapes.specs.Lists.{listed}
-use Rattle.crossing.specs.Crossed.{entry, placeIn, placesOf}
-use Rattle.crossing.specs.CrossedLaws.{write-more, write-all, item-of, listed-long}
+use Rattle.crossing.specs.Crossed.{entry, placeIn}
+use Rattle.crossing.specs.CrossedLaws.{Written, written-none, written-more, written-all, item-of, listed-long}
 use borrow.Author.Needs.{needs, sfits-of}
 use Rattle.crossing.proofs.lists.write_places.Statement.{statement}
 use Rattle.crossing.proofs.lists.write_places.Tie as tie
 
+abbrev placeAt : Shapes → ℕ → ℤ
+placeAt list k = placeIn (entry (listed list) (k / 8) .kind) (k % 8)
+
 abbrev Inv-loop : tie.InvT-loop
-Inv-loop places₀ list n k₀ places k = (k ≤ n) × (n ≡ list .count * 8) × (length places ≡ n) × (take k places ≡ take k (placesOf (listed list)))
+Inv-loop places₀ list n k₀ places k = Written (placeAt list) n places k
 
 abbrev μ-loop : tie.MeasureT-loop
 μ-loop places₀ list n k₀ places k = n - k
 
 -- an array's length is among what owning the parameter tells
-len : (c : tie.Start Inv-loop μ-loop) → length (c .args .t1 .items) ≡ 64
-len c = simp length-map at (c .good .0 .1 .1 .0 .1 .0 .1)
-
-all : (c : tie.Start Inv-loop μ-loop) → length (take (c .args .t1 .count) (c .args .t1 .items)) ≡ c .args .t1 .count
-all c = listed-long (c .args .t1 .items) (c .args .t1 .count) (len c) (c .pre .1)
+all : (c : tie.Start Inv-loop μ-loop) → length (listed (c .args .t1)) ≡ c .args .t1 .count
+all c = listed-long (c .args .t1 .items) (c .args .t1 .count) (simp length-map at (c .good .0 .1 .1 .0 .1 .0 .1)) (c .pre .1)
 
 mul-n : tie.Need-mul-n Inv-loop μ-loop
 mul-n c = search needs
 
 loop-holds : tie.Need-loop-holds Inv-loop μ-loop
-loop-holds c = (omega arith, refl, search needs, refl)
+loop-holds c = written-none _ (search needs)
 
 mul-x : tie.Need-mul-x Inv-loop μ-loop
 mul-x c = search needs
@@ -58,26 +57,16 @@ loop-less c = search needs
 loop-again : tie.Need-loop-again Inv-loop μ-loop
 loop-again c =
     let l = c .before .before .before in
-    let s = l .before in
-    let a = s .args .t1 in
+    let a = l .before .args .t1 in
     let i = l .loop .k / 8 in
-    let g : i < a .count = omega (arith, c .before .before .loop-test .taken) in (
-      omega arith,
-      refl,
-      simp length-set (l .loop .inv .2),
-      write-more (λ k. placeIn (entry (listed a) (k / 8) .kind) (k % 8)) (length (listed a) * 8) (pos 0) (l .loop .places) (l .loop .k) (toZ w32 (ofZ w32 (c .place-of .result))) (omega (arith, l .loop .inv .2, all s)) (omega (arith, all s)) (l .loop .inv .3)
-          (toZ-ofZ (sfits-of (c .place-of .ok)) ∙ c .place-of .ensures ∙ ap (λ (x : Shape). placeIn (x .kind) (l .loop .k % 8)) (item-of (a .items) (a .count) i g)),
-    )
+    let h : i < a .count = omega (arith, c .before .before .loop-test .taken) in
+    written-more (placeAt a) _ (l .loop .inv) (omega arith) (toZ-ofZ (sfits-of (c .place-of .ok)) ∙ c .place-of .ensures ∙ ap (λ (x : Shape). placeIn (x .kind) (l .loop .k % 8)) (item-of (a .items) (a .count) i h))
 
 same-length : tie.Need-same-length Inv-loop μ-loop
 same-length c = search needs
 
 returns : tie.Need-returns Inv-loop μ-loop
-returns c =
-    let l = c .before in
-    let s = l .before in
-    let a = s .args .t1 in
-    write-all (λ k. placeIn (entry (listed a) (k / 8) .kind) (k % 8)) (length (listed a) * 8) (pos 0) (l .loop .places) (l .loop .k) (omega (arith, l .loop .inv .2, all s)) (omega (arith, all s)) (l .loop .inv .3)
+returns c = let s = c .before .before in written-all (placeAt (s .args .t1)) (c .before .loop .inv) (omega arith) (ap (λ (m : ℕ). m * 8) (all s))
 
 pub write-places-spec : {M : Type 1} → statement M
 write-places-spec =
