@@ -1,14 +1,14 @@
 //! Scores from a table at one opacity and over 64 levels, and from the two pictures, for one call.
-//! Needs: probe_span_score probe_circle_point_score probe_triangle_point_score
+//! Needs: probe_span_score probe_circle_point_score probe_triangle_point_score probe_collect_circle_sums probe_collect_triangle_sums
 
 use crate::generator::Draw;
 use crate::harness::{taken, Entry};
-use crate::ours::{self, ProbedAnswer};
+use crate::ours::{self, ProbedAnswer, ProbedCollected};
 use oracle::shape::common::probe::alpha_sweep;
 use oracle::shape::integral::{
     eval_circle_integral_with_sums, eval_quad_integral_with_sums, eval_triangle_integral_with_sums, probe, Integral,
 };
-use oracle::shape::raster::{eval_circle, eval_triangle, EvalResult, ShapeSums};
+use oracle::shape::raster::{collect_circle_sums, collect_triangle_sums, eval_circle, eval_triangle, EvalResult, ShapeSums};
 use std::rc::Rc;
 
 const W: usize = 96;
@@ -136,6 +136,50 @@ fn points(name: &'static str, s: &Rc<Scene>, kind: u8, reach: i64, off: i64) -> 
     }
 }
 
+fn our_sums_taken(sum: u64, c: &ProbedCollected) -> u64 {
+    taken(taken(sum, c.count as u64), c.s_t[0].to_bits() ^ c.s_tc[2].to_bits())
+}
+
+fn rust_sums_taken(sum: u64, s: &ShapeSums) -> u64 {
+    taken(taken(sum, s.count as u64), s.s_t[0].to_bits() ^ s.s_tc[2].to_bits())
+}
+
+/// The sums alone, by points: a search sweeps them afterwards.
+fn sums(name: &'static str, s: &Rc<Scene>, kind: u8, reach: i64) -> Entry {
+    let (a, b) = (s.clone(), s.clone());
+    let (one, two) = (shapes(kind, reach, 0), shapes(kind, reach, 0));
+    Entry {
+        name,
+        units: MANY as u64,
+        ours: Box::new(move || {
+            one.iter().fold(0, |sum, c| {
+                let (t, v) = (&a.target, &a.canvas);
+                our_sums_taken(
+                    sum,
+                    &if kind == 1 {
+                        ours::probe_collect_circle_sums(c[0], c[1], c[2], W, H, t, v)
+                    } else {
+                        ours::probe_collect_triangle_sums(c[0], c[1], c[2], c[3], c[4], c[5], W, H, t, v)
+                    },
+                )
+            })
+        }),
+        rust: Box::new(move || {
+            two.iter().fold(0, |sum, c| {
+                let (t, v, h, w) = (&b.target, &b.canvas, H as i32, W as i32);
+                rust_sums_taken(
+                    sum,
+                    &if kind == 1 {
+                        collect_circle_sums(t, v, h, w, c[0], c[1], c[2])
+                    } else {
+                        collect_triangle_sums(t, v, h, w, c[0], c[1], c[2], c[3], c[4], c[5])
+                    },
+                )
+            })
+        }),
+    }
+}
+
 pub fn entries() -> Vec<Entry> {
     let s = scene();
     let far = 3000;
@@ -164,5 +208,9 @@ pub fn entries() -> Vec<Entry> {
         points("point score, triangle, medium", &s, 2, 16, 0),
         points("point score, triangle, whole picture", &s, 2, 400, 0),
         points("point score, triangle, far off", &s, 2, 16, far),
+        sums("sums by points, circle, tiny", &s, 1, 3),
+        sums("sums by points, circle, medium", &s, 1, 16),
+        sums("sums by points, triangle, tiny", &s, 2, 3),
+        sums("sums by points, triangle, medium", &s, 2, 16),
     ]
 }

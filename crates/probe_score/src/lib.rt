@@ -56,13 +56,13 @@ pub struct ProbedAnswer {
 
 #[repr(C)]
 pub struct ProbedCollected {
-    pub refused: u8,
     pub s_t: [f64; 3],
     pub s_c: [f64; 3],
     pub s_t2: [f64; 3],
     pub s_c2: [f64; 3],
     pub s_tc: [f64; 3],
     pub count: u32,
+    pub refused: u8,
 }
 
 #[no_mangle]

@@ -33,7 +33,7 @@ use Rattle.cover.specs.declared.reached.Rows.{Rows}
 use Rattle.cover.specs.ReachRows.{ReachRowsSays}
 use Rattle.float.specs.Within.{within}
 use Rattle.score.specs.Usual.{Usual}
-use Rattle.score.specs.Scoring.{SpanScoreSays, PointScoreSays, spanSums, pointSums, scoreAt, badCount, badOpacity, spanRefusal, pointRefusal, spanSumsRefusal, pointSumsRefusal, noneCollected, collected}
+use Rattle.score.specs.Scoring.{SpanScoreSays, PointScoreSays, spanSums, pointSums, scoreAt, badCount, badOpacity, spanRefusal, pointRefusal, spanSumsRefusal, pointSumsRefusal, noneCollected, collected, CollectSpanSumsSays, CollectPointSumsSays}
 
 pub or-first : (a b : Bool) → a ≡ true → a || b ≡ true
 or-first a b h = ap (λ (t : Bool). t || b) h
@@ -196,6 +196,31 @@ pub collected-done : (n : ℕ) (s t : ShapeSums) → n ≡ 0 → t ≡ s → rec
 collected-done n s t z e =
     ap (λ (q : ShapeSums). record { refused = 0; sums = q }) e
     ∙ sym (ap (λ (b : Bool). cond b (record { refused = 0; sums = s }) (noneCollected n)) (eq-eqb n 0 z))
+
+-- ---- sums of a call that passed its tests in one go
+module _ (kind : Kind) (w h : ℕ) {opacity : Float} {n : ℕ} where
+  module _ (table : List Float) (f : Usual kind opacity n w h × (badTable w h (length table) ≡ false)) where
+    span-sums-taken : spanSumsRefusal kind w h table ≡ 0
+    unfolding spanSumsRefusal
+    span-sums-taken = sym (three.at-none (badSize w h) (badTable w h (length table)) (badPlaces kind) 4 (omega arith) (f .0 .size) (f .1) (f .0 .places))
+
+    pub span-sums-told : (q : ShapeSums) → q ≡ spanSums kind w h table → CollectSpanSumsSays kind w h table (record { refused = 0; sums = q })
+    span-sums-told q e = collected-done (spanSumsRefusal kind w h table) (spanSums kind w h table) q span-sums-taken e
+
+    pub span-sums-nothing : (r : Rows) → ReachRowsSays kind w h r → r .bottom ≤ r .top → (c : Collected) → c ≡ noneCollected 0 → CollectSpanSumsSays kind w h table c
+    span-sums-nothing r e l c g = g ∙ span-sums-told noSums (none-spans kind w h (sized w h (f .0 .size) .h-high) (none-reached kind w h r e l) table)
+
+  module _ (target canvas : List Float) (f : Usual kind opacity n w h × (badPicture w h (length target) || badPicture w h (length canvas) ≡ false)) where
+    point-sums-taken : pointSumsRefusal kind w h target canvas ≡ 0
+    unfolding pointSumsRefusal
+    point-sums-taken =
+        sym (three.at-none (badSize w h) (badPicture w h (length target) || badPicture w h (length canvas)) (badPlaces kind) 4 (omega arith) (f .0 .size) (f .1) (f .0 .places))
+
+    pub point-sums-told : (q : ShapeSums) → q ≡ pointSums kind w h target canvas → CollectPointSumsSays kind w h target canvas (record { refused = 0; sums = q })
+    point-sums-told q e = collected-done (pointSumsRefusal kind w h target canvas) (pointSums kind w h target canvas) q point-sums-taken e
+
+    pub point-sums-nothing : (r : Rows) → ReachRowsSays kind w h r → r .bottom ≤ r .top → (c : Collected) → c ≡ noneCollected 0 → CollectPointSumsSays kind w h target canvas c
+    point-sums-nothing r e l c g = g ∙ point-sums-told noSums (none-points kind w h (sized w h (f .0 .size) .h-high) (none-reached kind w h r e l) target canvas)
 
 pub not-holds : (b : Bool) → not b ≡ true → b ≡ false
 not-holds true h = no-both h refl

@@ -195,13 +195,34 @@ fn no_sums(no: u8) -> Collected
 {
     let sums = ShapeSums::new();
     Collected {
-        refused: no,
         sums: sums,
+        refused: no,
     }
 }
 
-// The sums of a shape from a table, for sweeps and scores at several opacities.
+// The sums of a shape from a table, for sweeps and scores at several opacities. As for a score the tests come in one go; there is no
+// opacity and no level list to test, so 0 and 64 stand for them.
 pub fn collect_span_sums(kind: Kind, w: usize, h: usize, table: &[f64]) -> Collected
+    ensures { λ r. ⌜ CollectSpanSumsSays kind w h (now (table .entry)) r ⌝ }
+{
+    if crate::tests::usual_table(kind, 0.0, 64, w, h, table.len()) {
+        let rows = cover::reached::reach_rows(kind, w, h);
+        let top = rows.top;
+        let bottom = rows.bottom;
+        if bottom <= top {
+            return no_sums(0);
+        }
+        let gathered = crate::spans::reached_sums(kind, top, bottom, w, h, table);
+        return Collected {
+            sums: gathered,
+            refused: 0,
+        };
+    }
+    tested_span_sums(kind, w, h, table)
+}
+
+// The same with the tests in order.
+fn tested_span_sums(kind: Kind, w: usize, h: usize, table: &[f64]) -> Collected
     ensures { λ r. ⌜ CollectSpanSumsSays kind w h (now (table .entry)) r ⌝ }
 {
     let no = crate::tests::span_sums_refusal(kind, w, h, table);
@@ -210,12 +231,12 @@ pub fn collect_span_sums(kind: Kind, w: usize, h: usize, table: &[f64]) -> Colle
     }
     let sums = crate::spans::span_sums(kind, w, h, table);
     Collected {
-        refused: 0,
         sums: sums,
+        refused: 0,
     }
 }
 
-fn collect_point_sums(kind: Kind, w: usize, h: usize, target: &[f32], canvas: &[f32]) -> Collected
+fn tested_point_sums(kind: Kind, w: usize, h: usize, target: &[f32], canvas: &[f32]) -> Collected
     ensures { λ r. ⌜ CollectPointSumsSays kind w h (now (target .entry)) (now (canvas .entry)) r ⌝ }
 {
     let no = crate::tests::point_sums_refusal(kind, w, h, target, canvas);
@@ -224,8 +245,8 @@ fn collect_point_sums(kind: Kind, w: usize, h: usize, target: &[f32], canvas: &[
     }
     let sums = crate::points::point_sums(kind, w, h, target, canvas);
     Collected {
-        refused: 0,
         sums: sums,
+        refused: 0,
     }
 }
 
@@ -241,7 +262,21 @@ pub fn collect_circle_sums(
 ) -> Collected
     ensures { λ s. ⌜ CollectCircleSumsSays cx cy r w h (now (target .entry)) (now (canvas .entry)) s ⌝ }
 {
-    collect_point_sums(Kind::Circle(cx, cy, r), w, h, target, canvas)
+    let kind = Kind::Circle(cx, cy, r);
+    if crate::tests::usual_pictures(kind, 0.0, 64, w, h, target.len(), canvas.len()) {
+        let rows = cover::reached::reach_rows(kind, w, h);
+        let top = rows.top;
+        let bottom = rows.bottom;
+        if bottom <= top {
+            return no_sums(0);
+        }
+        let sums = crate::points::reached_sums(kind, top, bottom, w, h, target, canvas);
+        return Collected {
+            sums: sums,
+            refused: 0,
+        };
+    }
+    tested_point_sums(kind, w, h, target, canvas)
 }
 
 // The same of a triangle.
@@ -259,5 +294,19 @@ pub fn collect_triangle_sums(
 ) -> Collected
     ensures { λ s. ⌜ CollectTriangleSumsSays x0 y0 x1 y1 x2 y2 w h (now (target .entry)) (now (canvas .entry)) s ⌝ }
 {
-    collect_point_sums(Kind::Triangle(x0, y0, x1, y1, x2, y2), w, h, target, canvas)
+    let kind = Kind::Triangle(x0, y0, x1, y1, x2, y2);
+    if crate::tests::usual_pictures(kind, 0.0, 64, w, h, target.len(), canvas.len()) {
+        let rows = cover::reached::reach_rows(kind, w, h);
+        let top = rows.top;
+        let bottom = rows.bottom;
+        if bottom <= top {
+            return no_sums(0);
+        }
+        let sums = crate::points::reached_sums(kind, top, bottom, w, h, target, canvas);
+        return Collected {
+            sums: sums,
+            refused: 0,
+        };
+    }
+    tested_point_sums(kind, w, h, target, canvas)
 }

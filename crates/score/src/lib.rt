@@ -12,8 +12,8 @@ pub enum Request {
     Levels(usize),
 }
 
-// Sums, with the number of the refusal beside them, 0 if there is none.
+// Sums, with the number of the refusal behind them, 0 if there is none: so their parts lie as they were written, and are read as they lie.
 pub struct Collected {
-    pub refused: u8,
     pub sums: ShapeSums,
+    pub refused: u8,
 }

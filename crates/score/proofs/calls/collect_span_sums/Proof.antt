@@ -1,43 +1,58 @@
--- `score::calls::collect_span_sums` meets its contract: the refusal and no sums, or the sums.
-use mathlib.Core.Path.{sym, _∙_}
-use lib.ListN.{length}
-use Rattle.refusal.specs.RefusalLaws.{sized}
-use Rattle.score.specs.Scoring.{spanSumsRefusal, spanSums}
-use Rattle.score.specs.CallLaws.{span-sums-passed, table-length, collected-refused, collected-done}
+-- `score::calls::collect_span_sums` meets its contract: nothing where no row is reached, the sums of the rows that are, or what the tests in order give.
 use native.Mathlib.Omega.{arith}
+use lib.ListN.{length}
+use Rattle.score.specs.ScoringLaws.{some-reached}
+use Rattle.score.specs.CallLaws.{table-length, usual-rows, span-sums-nothing, span-sums-told}
 use borrow.Author.Needs.{needs}
 use Rattle.score.proofs.calls.collect_span_sums.Statement.{statement}
 use Rattle.score.proofs.calls.collect_span_sums.Tie as tie
 
-span-sums-refusal-requires : tie.Need-span-sums-refusal-requires
-span-sums-refusal-requires c κs = search needs
+usual-table-requires : tie.Need-usual-table-requires
+usual-table-requires c κs = search needs
+
+reach-rows-requires : tie.Need-reach-rows-requires
+reach-rows-requires c κs = let a = c .before .before .before .args in usual-rows _ _ _ (a .w) (a .h) (c .before .usual-table .ensures (c .if1 .taken) .0)
 
 no-sums-requires : tie.Need-no-sums-requires
 no-sums-requires c κs = search needs
 
 returns : tie.Need-returns
 returns c =
-    let n = c .before .before in
-    let a = n .before .before .args in
-    collected-refused (spanSumsRefusal (a .kind) (a .w) (a .h) (a .table .now)) (n .span-sums-refusal .result) (c .no-sums .result) (spanSums (a .kind) (a .w) (a .h) (a .table .now))
-    (n .span-sums-refusal .ensures) (c .before .if1 .taken) (c .no-sums .ensures)
+    let r = c .before .before in
+    let t = r .before in
+    let a = t .before .before .before .args in
+    span-sums-nothing (a .kind) (a .w) (a .h) (a .table .now) (t .before .usual-table .ensures (t .if1 .taken)) (r .reach-rows .result) (r .reach-rows .ensures) (c .before .if2 .taken) (c .no-sums .result) (c .no-sums .ensures)
 
-span-sums-requires : tie.Need-span-sums-requires
-span-sums-requires c κs =
-    let n = c .before in
-    let a = n .before .before .args in
-    let k = span-sums-passed (a .kind) (a .w) (a .h) (a .table .now) (sym (n .span-sums-refusal .ensures) ∙ c .if1 .left) in
-    (sized (a .w) (a .h) (k .0), (k .2, table-length (a .w) (a .h) (length (a .table .now)) (k .1)))
+reached-sums-requires : tie.Need-reached-sums-requires
+reached-sums-requires c κs =
+    let r = c .before in
+    let t = r .before in
+    let a = t .before .before .before .args in
+    let f = t .before .usual-table .ensures (t .if1 .taken) in
+    let z = usual-rows _ _ _ (a .w) (a .h) (f .0) in
+    (z .0, (z .1, (table-length (a .w) (a .h) (length (a .table .now)) (f .1), some-reached _ (a .w) (a .h) (r .reach-rows .result) (r .reach-rows .ensures) (omega (arith, c .if2 .left)))))
 
 returns-2 : tie.Need-returns-2
 returns-2 c =
-    let e = c .before in
-    let n = e .before in
-    let a = n .before .before .args in
-    collected-done (spanSumsRefusal (a .kind) (a .w) (a .h) (a .table .now)) (spanSums (a .kind) (a .w) (a .h) (a .table .now)) (c .span-sums .result)
-    (sym (n .span-sums-refusal .ensures) ∙ e .if1 .left) (c .span-sums .ensures)
+    let t = c .before .before .before in
+    let a = t .before .before .before .args in
+    span-sums-told (a .kind) (a .w) (a .h) (a .table .now) (t .before .usual-table .ensures (t .if1 .taken)) (c .reached-sums .result) (c .reached-sums .ensures)
+
+tested-span-sums-requires : tie.Need-tested-span-sums-requires
+tested-span-sums-requires c κs = search needs
+
+returns-3 : tie.Need-returns-3
+returns-3 c = c .tested-span-sums .ensures
 
 pub collect-span-sums-spec : {M : Type 1} → statement M
 collect-span-sums-spec =
     tie.close
-    (tie.spec span-sums-refusal-requires no-sums-requires returns span-sums-requires returns-2)
+    (tie.spec
+    usual-table-requires
+    reach-rows-requires
+    no-sums-requires
+    returns
+    reached-sums-requires
+    returns-2
+    tested-span-sums-requires
+    returns-3)

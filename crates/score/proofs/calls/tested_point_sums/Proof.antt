@@ -1,4 +1,4 @@
--- `score::calls::collect_point_sums` meets its contract: the refusal and no sums, or the sums.
+-- `score::calls::tested_point_sums` meets its contract: the refusal and no sums, or the sums.
 use mathlib.Core.Path.{sym, _∙_}
 use lib.ListN.{length}
 use Rattle.refusal.specs.RefusalLaws.{sized}
@@ -6,8 +6,8 @@ use Rattle.score.specs.Scoring.{pointSumsRefusal, pointSums}
 use Rattle.score.specs.CallLaws.{point-sums-passed, picture-lengths, collected-refused, collected-done}
 use native.Mathlib.Omega.{arith}
 use borrow.Author.Needs.{needs}
-use Rattle.score.proofs.calls.collect_point_sums.Statement.{statement}
-use Rattle.score.proofs.calls.collect_point_sums.Tie as tie
+use Rattle.score.proofs.calls.tested_point_sums.Statement.{statement}
+use Rattle.score.proofs.calls.tested_point_sums.Tie as tie
 
 point-sums-refusal-requires : tie.Need-point-sums-refusal-requires
 point-sums-refusal-requires c κs = search needs
@@ -37,7 +37,7 @@ returns-2 c =
     collected-done (pointSumsRefusal (a .kind) (a .w) (a .h) (a .target .now) (a .canvas .now)) (pointSums (a .kind) (a .w) (a .h) (a .target .now) (a .canvas .now)) (c .point-sums .result)
     (sym (n .point-sums-refusal .ensures) ∙ e .if1 .left) (c .point-sums .ensures)
 
-pub collect-point-sums-spec : {M : Type 1} → statement M
-collect-point-sums-spec =
+pub tested-point-sums-spec : {M : Type 1} → statement M
+tested-point-sums-spec =
     tie.close
     (tie.spec point-sums-refusal-requires no-sums-requires returns point-sums-requires returns-2)
