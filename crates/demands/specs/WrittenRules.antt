@@ -129,11 +129,14 @@ module _ (s : ShapeSums) (a : Float) where
   nothing-covered-scores-nothing z = rw (eq-eqb (s .count) 0 z) refl
 
   module _ (some : s .count ≡ 0 → ⊥) where
+    -- a channel's colour
+    abbrev ruled : ℕ → Float
+    ruled ch = narrowed (clamped (cond (lt nought (a ⊗ countOf s)) ((channel (s .«s_t») ch ⊖ rest a ⊗ channel (s .«s_c») ch) ⊘ (a ⊗ countOf s)) nought))
+
     -- "denom = a·count; each channel p = (t - m·c)/denom if denom > 0, else 0; below 0 becomes 0, above 1 becomes 1; narrowed to f32"
-    pub colour-by-the-rule : finalized s a .red
-        ≡ narrowed (clamped (cond (lt nought (a ⊗ countOf s)) ((channel (s .«s_t») 0 ⊖ rest a ⊗ channel (s .«s_c») 0) ⊘ (a ⊗ countOf s)) nought))
+    pub colour-by-the-rule : (finalized s a .red ≡ ruled 0) × (finalized s a .green ≡ ruled 1) × (finalized s a .blue ≡ ruled 2)
     unfolding finalized colourAt colourOf
-    colour-by-the-rule = rw (ne-eqb (s .count) 0 some) refl
+    colour-by-the-rule = let n = ne-eqb (s .count) 0 some in (rw n refl, rw n refl, rw n refl)
 
     -- "The change is after minus before, narrowed, each added over channels 0, 1, 2 from +0"
     pub change-by-the-rule : finalized s a .change
@@ -169,17 +172,27 @@ unfolding totalOf
 total-by-the-rule w h target canvas r p z =
     ap (λ (a : Answer Float). a .value) p ∙ ap (λ (b : Bool). cond b (totalOf target canvas) nought) (eq-eqb (totalRefusal w h target canvas) 0 z)
 
+-- a channel's mean
+abbrev meanRuled : ℕ → ℕ → List Float → ℕ → Float
+meanRuled w h target ch = narrowed (before nought _⊕_ (λ i. getD target (i * 3 + ch) nan) (h * w) ⊘ ofInt binary64 (pos (h * w)))
+
 -- "Mean: f64 sums, divided by the pixel count, narrowed"
 pub mean-by-the-rule : (w h : ℕ) (target : List Float) (r : Mean) → MeanRgbSays w h target r → meanRefusal w h target ≡ 0
-    → meanAnswer r .value .red ≡ narrowed (before nought _⊕_ (λ i. getD target (i * 3 + 0) nan) (h * w) ⊘ ofInt binary64 (pos (h * w)))
+    → (meanAnswer r .value .red ≡ meanRuled w h target 0) × (meanAnswer r .value .green ≡ meanRuled w h target 1) × (meanAnswer r .value .blue ≡ meanRuled w h target 2)
 unfolding meanOf channelMean channelSum
 mean-by-the-rule w h target r p z =
-    ap (λ (a : Answer Colour). a .value .red) p ∙ ap (λ (b : Bool). cond b (meanOf w h target) noColour .red) (eq-eqb (meanRefusal w h target) 0 z)
+    let e = ap (λ (a : Answer Colour). a .value) p ∙ ap (λ (b : Bool). cond b (meanOf w h target) noColour) (eq-eqb (meanRefusal w h target) 0 z) in
+    (ap (λ (c : Colour). c .red) e, ap (λ (c : Colour). c .green) e, ap (λ (c : Colour). c .blue) e)
 
--- "Narrowing f64 to f32: nearest, ties to even; subnormals kept; too large gives infinity; any NaN gives 7FC00000"
+-- "Narrowing f64 to f32: nearest, ties to even; subnormals kept; too large gives infinity": of a finite number
 pub narrowing-rounds-once : (b r : ℕ) (s : Bool) (m : ℕ) (e : ℤ) → NarrowBitsSays b r → ofBits binary64 b ≡ fin s m e → r ≡ toBits binary32 (round binary32 s (m * up e) (down e))
 unfolding narrowed
 narrowing-rounds-once b r s m e p q = p ∙ ap (λ (x : Float). toBits binary32 (narrowed x)) q
+
+-- "any NaN gives 7FC00000"
+pub narrowing-of-a-nan : (b r : ℕ) → NarrowBitsSays b r → ofBits binary64 b ≡ nan → r ≡ 0x7FC0_0000
+unfolding narrowed toBits
+narrowing-of-a-nan b r p q = p ∙ ap (λ (x : Float). toBits binary32 (narrowed x)) q
 
 -- "Passes 0 or fewer than two shapes: the list stays"
 pub few-shapes-stay : {S P : Type 0} (g : Scene S P) (p : ℕ) (l : List S) → length l < 2 → refined g p l .list ≡ l
