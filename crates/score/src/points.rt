@@ -1,12 +1,13 @@
 // Sums of a shape pixel by pixel, in row order, from the two pictures themselves.
 ghost use mathlib.Core.Path.{_≡_};
 ghost use mathlib.Core.Bool.{true, false};
-ghost use Prim.Native.Nat.{_+_, _-_, _*_, _≤_, _<_, _^_};
+ghost use Prim.Native.Nat.{_+_, _-_, _*_, _/_, _%_, _≤_, _<_, _^_};
 ghost use lib.ListN.{length};
 ghost use Rattle.refusal.specs.Refusals.{Sized};
 ghost use Rattle.cover.specs.Cover.{badPlaces};
-ghost use Rattle.sums.specs.Sums.{plus};
+ghost use Rattle.sums.specs.Sums.{noSums, plus};
 ghost use Rattle.score.specs.RunSums.{pixelsAdded, pointsAdded, RunsFit, NumbersIn, Reached};
+ghost use Rattle.score.specs.StampSums.{stampPoints, StampIn};
 ghost use Rattle.score.specs.Scoring.{pixelFrom, pointSums};
 use cover::Kind;
 use sums::ShapeSums;
@@ -172,6 +173,75 @@ fn push_rows(
         let right = runs[y * 2 + 1] as usize;
         s = push_row(target, canvas, w, y, left, right, s);
         y += 1;
+    }
+    s
+}
+
+// Where the channels of a stamp's pixel i begin.
+fn stamp_place(i: usize, left: usize, top: usize, w: usize) -> usize
+    requires { ⌜ (i < 64) × (left < 256) × (top < 256) × (w ≤ 256) ⌝ }
+    ensures { λ r. ⌜ r ≡ ((top + i / 8) * w + (left + i % 8)) * 3 ⌝ }
+{
+    ((top + i / 8) * w + (left + i % 8)) * 3
+}
+
+// The pixels that the bits of `rest` say, from pixel `from` on, of any bits.
+fn push_stamp_any(
+    rest: u64,
+    from: usize,
+    left: usize,
+    top: usize,
+    target: &[f32],
+    canvas: &[f32],
+    w: usize,
+    sums: ShapeSums,
+) -> ShapeSums
+    requires bits { ⌜ (from ≤ 64) × (rest < 2 ^ (64 - from)) × (sums .count ≤ from) ⌝ }
+    requires window { ⌜ (left < 256) × (top < 256) × (w ≤ 256) ⌝ }
+    requires lent { ⌜ length (now canvas) ≡ length (now target) ⌝ }
+    requires pixels { ⌜ StampIn w left top (length (now target)) from rest ⌝ }
+    ensures { λ r. ⌜ r ≡ stampPoints w (now (target .entry)) (now (canvas .entry)) left top from rest sums ⌝ }
+{
+    let mut s = sums;
+    let mut b = rest;
+    let mut i = from;
+    while b != 0 {
+        let z = u64::trailing_zeros(b);
+        let j = i + z as usize;
+        s = push_any(target, canvas, stamp_place(j, left, top, w), s);
+        b = (b >> z) / 2;
+        i = j + 1;
+    }
+    s
+}
+
+// The pixels of a stamp, in row order. Each is looked at until there is a NaN.
+pub(crate) fn push_stamp(
+    bits: u64,
+    left: usize,
+    top: usize,
+    target: &[f32],
+    canvas: &[f32],
+    w: usize,
+) -> ShapeSums
+    requires window { ⌜ (left < 256) × (top < 256) × (w ≤ 256) ⌝ }
+    requires lent { ⌜ length (now canvas) ≡ length (now target) ⌝ }
+    requires pixels { ⌜ StampIn w left top (length (now target)) 0 bits ⌝ }
+    ensures { λ r. ⌜ r ≡ stampPoints w (now (target .entry)) (now (canvas .entry)) left top 0 bits noSums ⌝ }
+{
+    let mut s = ShapeSums::new();
+    let mut b = bits;
+    let mut i = 0;
+    while b != 0 {
+        let z = u64::trailing_zeros(b);
+        let j = i + z as usize;
+        let at = stamp_place(j, left, top, w);
+        if !numbers_at(target, canvas, at) {
+            return push_stamp_any(b, i, left, top, target, canvas, w, s);
+        }
+        s = push_numbers(target, canvas, at, s);
+        b = (b >> z) / 2;
+        i = j + 1;
     }
     s
 }

@@ -6,6 +6,8 @@ ghost use lib.ListN.{length};
 ghost use Rattle.refusal.specs.Refusals.{Sized};
 ghost use Rattle.cover.specs.Cover.{badPlaces};
 ghost use Rattle.score.specs.RunSums.{runAdded, runsAdded, RunsFit, Reached};
+ghost use Rattle.sums.specs.Sums.{noSums};
+ghost use Rattle.score.specs.StampSums.{stampRow, stampSpans, RowIn, RowsIn};
 ghost use Rattle.score.specs.Scoring.{spanSums};
 use cover::Kind;
 use sums::ShapeSums;
@@ -33,6 +35,44 @@ fn add_rows(runs: &[u16; 512], top: usize, bottom: usize, table: &[f64], w: usiz
         let left = runs[y * 2] as usize;
         let right = runs[y * 2 + 1] as usize;
         s = add_row(table, w, y, left, right, s);
+        y += 1;
+    }
+    s
+}
+
+// The run of a stamp's row, if it has a pixel: eight bits, of which the lowest is column left.
+fn add_stamp_row(
+    row: u32,
+    left: usize,
+    y: usize,
+    table: &[f64],
+    w: usize,
+    s: ShapeSums,
+) -> ShapeSums
+    requires { ⌜ (row < 256) × (left < 256) × (w ≤ 256) × (s .count ≤ 64) ⌝ }
+    requires { ⌜ RowIn w left y (length (now table)) row ⌝ }
+    ensures { λ r. ⌜ r ≡ stampRow w (now (table .entry)) left y row s ⌝ }
+{
+    if row == 0 {
+        return s;
+    }
+    let first = u32::trailing_zeros(row) as usize;
+    let past = 32 - u32::leading_zeros(row) as usize;
+    table::add_span(table, w, y, left + first, left + past, s)
+}
+
+// The runs of a stamp's rows, from the top row down.
+pub(crate) fn add_stamp(bits: u64, left: usize, top: usize, table: &[f64], w: usize) -> ShapeSums
+    requires window { ⌜ (left < 256) × (top < 256) × (w ≤ 256) ⌝ }
+    requires rows { ⌜ RowsIn w left top (length (now table)) 8 bits ⌝ }
+    ensures { λ r. ⌜ r ≡ stampSpans w (now (table .entry)) left top 8 bits noSums ⌝ }
+{
+    let mut s = ShapeSums::new();
+    let mut b = bits;
+    let mut y = top;
+    while b != 0 {
+        s = add_stamp_row((b % 256) as u32, left, y, table, w, s);
+        b = b / 256;
         y += 1;
     }
     s
