@@ -1,0 +1,2 @@
+-- Eight rows of eight pixels as a number.
+pub mod Stamp
