@@ -2,13 +2,16 @@
 use mathlib.Core.Path.{_≡_, refl, sym, _∙_, ap, ap₂, subst}
 use mathlib.Core.Bool.{Bool, true, false, _&&_}
 use mathlib.Core.List.{List, [], _∷_}
-use Prim.Native.Nat.{ℕ, zero, suc, _+_, _-_, _*_, _≤_, _<_}
+use Prim.Native.Nat.{ℕ, zero, suc, _+_, _-_, _*_, _/_, _≤_, _<_}
 use native.Mathlib.Omega.{arith}
 use lib.Bits.{bitAnd}
 use lib.IntN.{ℤ, pos, _+ℤ_, _-ℤ_, _*ℤ_, natAbs}
+use lib.ListN.{getD}
+use mir.Syntax.{w32}
+use mir.Val.{toZ, ofZ}
 use lib.Signed.{_≤ℤ_, _<ℤ_, leZ}
 use Rattle.laws.specs.Bound.{Bounded}
-use Rattle.laws.specs.Bounds.{w-, w*, wle, weq}
+use Rattle.laws.specs.Bounds.{w-, w*, wle, weq, rd}
 use Rattle.laws.specs.Parts.{P, N, zord, of+, of-, of*, one-zero}
 use Rattle.laws.specs.Fit.{of-abs}
 use Rattle.laws.specs.Poly.{x, c, _⊞_, _⊟_, _⊠_, ring}
@@ -17,9 +20,9 @@ use Rattle.polygon.specs.Polygon.{Point, at, side, area2, areaTest, edgeTest, p
 use Rattle.polygon.specs.Steps.{Signed, signOf}
 use Rattle.polygon.specs.Sides.{edge-sign, no-side}
 use Rattle.polygon.specs.OneRow.{four}
-use Rattle.stamp.specs.Stamp.{Eighth}
+use Rattle.stamp.specs.Stamp.{Eighth, InEights}
 use Rattle.stamp.specs.Lanes.{lanesOf, laneAt, InLanes, innerTest, Cornered}
-use Rattle.stamp.specs.LanesLaws.{lanes-agree, lanes-below, lanes-and, lanes-rise, lanes-fall, tops, lane-top}
+use Rattle.stamp.specs.LanesLaws.{lanes-agree, lanes-below, lanes-and, lanes-rise, lanes-fall, tops, lane-top, lanes-both, lanes-low}
 
 -- ---- eights
 pub eighth-bounded : {z : ℤ} → Eighth z → Bounded 7 z
@@ -31,6 +34,13 @@ eighth-apart {a} {b} h l =
 
 eighth-row : (k : ℕ) → k ≤ 7 → Eighth (pos k)
 eighth-row k h = record { low = omega (arith, zord); high = omega (arith, zord) }
+
+-- as it is read from its local
+pub eighth-read : {z : ℤ} → Eighth z → Eighth (toZ w32 (ofZ w32 z))
+eighth-read h = rw (rd w32 tt (eighth-bounded h)) h
+
+pub corner-read : (xs ys : List ℤ) → InEights xs ys → (i : ℕ) → Cornered (at (toZ w32 (ofZ w32 (getD xs i (pos 0)))) (toZ w32 (ofZ w32 (getD ys i (pos 0)))))
+corner-read xs ys h i = record { x = eighth-read (h .x i); y = eighth-read (h .y i) }
 
 -- ---- the bytes of a line keep their places
 module _ {value slope : ℤ} (h : InLanes value slope) where
@@ -129,19 +139,55 @@ and-order true true false true = refl
 and-order true true true false = refl
 and-order true true true true = refl
 
-module _ (x0 y0 x1 y1 x2 y2 x3 y3 sign : ℤ) (g : Signed (four x0 x1 x2 x3) (four y0 y1 y2 y3) sign) (p : Point) where
-  abbrev test : Point → Point → Bool
-  test i j = innerTest sign i j p
+and-true : (a b : Bool) → b ≡ true → a && b ≡ a
+and-true true b h = h
+and-true false b h = refl
+
+module _ (x0 y0 x1 y1 x2 y2 x3 y3 sign : ℤ) (g : Signed (four x0 x1 x2 x3) (four y0 y1 y2 y3) sign) (u : ℤ) where
+  -- the test of an edge, row by row
+  abbrev test : Point → Point → ℕ → Bool
+  test i j k = innerTest sign i j (at u (pos k))
+
+  abbrev three : ℕ → Bool
+  three k = (test (at x0 y0) (at x1 y1) k && test (at x1 y1) (at x2 y2) k) && test (at x3 y3) (at x0 y0) k
+
+  abbrev covers : ℕ → Bool
+  covers k = polygon (corners (four x0 x1 x2 x3) (four y0 y1 y2 y3)) (at u (pos k))
 
   -- the third may come last
-  pub four-tests : ((test (at x0 y0) (at x1 y1) && test (at x1 y1) (at x2 y2)) && test (at x3 y3) (at x0 y0)) && test (at x2 y2) (at x3 y3)
-      ≡ polygon (corners (four x0 x1 x2 x3) (four y0 y1 y2 y3)) p
+  four-tests : (k : ℕ) → three k && test (at x2 y2) (at x3 y3) k ≡ covers k
   unfolding polygon polygonTests
-  four-tests =
+  four-tests k =
       let area = area2 (corners (four x0 x1 x2 x3) (four y0 y1 y2 y3)) in
-      sym (and-order (test (at x0 y0) (at x1 y1)) (test (at x1 y1) (at x2 y2)) (test (at x2 y2) (at x3 y3)) (test (at x3 y3) (at x0 y0)))
+      let p = at u (pos k) in
+      sym (and-order (test (at x0 y0) (at x1 y1) k) (test (at x1 y1) (at x2 y2) k) (test (at x2 y2) (at x3 y3) k) (test (at x3 y3) (at x0 y0) k))
       ∙ sym (rw (g .some, edge-sign area p (at x0 y0) (at x1 y1), edge-sign area p (at x1 y1) (at x2 y2), edge-sign area p (at x2 y2) (at x3 y3), edge-sign area p (at x3 y3) (at x0 y0), g .is) refl)
 
--- from a corner to itself there is no edge
-pub no-test : (sign : ℤ) (i p : Point) → innerTest sign i i p ≡ true
-no-test sign i p = ap (λ (z : ℤ). leZ (pos 0) z) (no-side sign i p)
+  -- from a corner to itself there is no edge
+  three-tests : at x2 y2 ≡ at x3 y3 → (k : ℕ) → three k ≡ covers k
+  three-tests e k =
+      let p = at u (pos k) in
+      sym (and-true (three k) (test (at x2 y2) (at x3 y3) k)
+      (subst (λ (j : Point). innerTest sign (at x2 y2) j p ≡ true) e (ap (λ (z : ℤ). leZ (pos 0) z) (no-side sign (at x2 y2) p))))
+      ∙ four-tests k
+
+  -- ---- the column
+  abbrev topsOf : (ℕ → Bool) → ℕ
+  topsOf t = lanesOf (λ k. 128 * bit (t k)) 8
+
+  lowest : (t : ℕ → Bool) → ((k : ℕ) → t k ≡ covers k) → topsOf t / 128 ≡ lanesOf (λ k. bit (covers k)) 8
+  lowest t h = lanes-low (λ k. bit (t k)) 8 ∙ lanes-agree (λ k. bit (t k)) (λ k. bit (covers k)) 8 (λ k l. ap bit (h k))
+
+  module _ (a b e : ℕ) (p : a ≡ topsOf (test (at x0 y0) (at x1 y1))) (q : b ≡ topsOf (test (at x1 y1) (at x2 y2))) (r : e ≡ topsOf (test (at x3 y3) (at x0 y0))) where
+    three-is : bitAnd (bitAnd a b) e ≡ topsOf three
+    three-is =
+        ap₂ bitAnd (ap₂ bitAnd p q ∙ lanes-both (test (at x0 y0) (at x1 y1)) (test (at x1 y1) (at x2 y2)) 8) r
+        ∙ lanes-both (λ k. test (at x0 y0) (at x1 y1) k && test (at x1 y1) (at x2 y2) k) (test (at x3 y3) (at x0 y0)) 8
+
+    pub column-three : at x2 y2 ≡ at x3 y3 → bitAnd (bitAnd a b) e / 128 ≡ lanesOf (λ k. bit (covers k)) 8
+    column-three same = ap (λ (n : ℕ). n / 128) three-is ∙ lowest three (three-tests same)
+
+    pub column-four : (d : ℕ) → d ≡ topsOf (test (at x2 y2) (at x3 y3)) → bitAnd (bitAnd (bitAnd a b) e) d / 128 ≡ lanesOf (λ k. bit (covers k)) 8
+    column-four d s =
+        ap (λ (n : ℕ). n / 128) (ap₂ bitAnd three-is s ∙ lanes-both three (test (at x2 y2) (at x3 y3)) 8)
+        ∙ lowest (λ k. three k && test (at x2 y2) (at x3 y3) k) four-tests
