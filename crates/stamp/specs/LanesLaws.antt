@@ -15,6 +15,10 @@ use Rattle.laws.specs.Ends.{bit}
 use Rattle.stamp.specs.Lanes.{lanesOf, laneAt, InLanes}
 
 -- ---- bytes side by side
+pub lanes-none : lanesOf (λ k. 0) 8 ≡ 0
+unfolding lanesOf
+lanes-none = refl
+
 pub lanes-agree : (f g : ℕ → ℕ) (n : ℕ) → ((k : ℕ) → k < n → f k ≡ g k) → lanesOf f n ≡ lanesOf g n
 unfolding lanesOf
 lanes-agree f g zero h = refl

@@ -4,3 +4,4 @@ pub mod Lanes
 pub mod LanesLaws
 pub mod StampLaws
 pub mod EdgeLaws
+pub mod ColumnLaws
