@@ -9,15 +9,15 @@ use lib.IntN.{ℤ, pos, _+ℤ_, _-ℤ_, _*ℤ_, natAbs}
 use lib.ListN.{getD}
 use mir.Syntax.{w32}
 use mir.Val.{toZ, ofZ}
-use lib.Signed.{_≤ℤ_, _<ℤ_, leZ}
+use lib.Signed.{_≤ℤ_, leZ}
 use Rattle.laws.specs.Bound.{Bounded}
 use Rattle.laws.specs.Bounds.{w-, w*, wle, weq, rd}
-use Rattle.laws.specs.Parts.{P, N, zord, of+, of-, of*, one-zero}
+use Rattle.laws.specs.Parts.{zord, of+, of-, one-zero}
 use Rattle.laws.specs.Fit.{of-abs}
 use Rattle.laws.specs.Poly.{x, c, _⊞_, _⊟_, _⊠_, ring}
 use Rattle.laws.specs.Ends.{bit}
-use Rattle.polygon.specs.Polygon.{Point, at, side, area2, areaTest, edgeTest, polygonTests, polygon, corners}
-use Rattle.polygon.specs.Steps.{Signed, signOf}
+use Rattle.polygon.specs.Polygon.{Point, at, side, area2, polygonTests, polygon, corners}
+use Rattle.polygon.specs.Steps.{Signed}
 use Rattle.polygon.specs.Sides.{edge-sign, no-side}
 use Rattle.polygon.specs.OneRow.{four}
 use Rattle.stamp.specs.Stamp.{Eighth, InEights}
@@ -41,6 +41,18 @@ eighth-read h = rw (rd w32 tt (eighth-bounded h)) h
 
 pub corner-read : (xs ys : List ℤ) → InEights xs ys → (i : ℕ) → Cornered (at (toZ w32 (ofZ w32 (getD xs i (pos 0)))) (toZ w32 (ofZ w32 (getD ys i (pos 0)))))
 corner-read xs ys h i = record { x = eighth-read (h .x i); y = eighth-read (h .y i) }
+
+-- four corners, one by one
+pub in-eights : {x0 y0 x1 y1 x2 y2 x3 y3 : ℤ} → Cornered (at x0 y0) → Cornered (at x1 y1) → Cornered (at x2 y2) → Cornered (at x3 y3)
+    → InEights (four x0 x1 x2 x3) (four y0 y1 y2 y3)
+in-eights {x0} {y0} {x1} {y1} {x2} {y2} {x3} {y3} a b d e = record { x = each (a .x) (b .x) (d .x) (e .x); y = each (a .y) (b .y) (d .y) (e .y) }
+  where
+    each : {p q r s : ℤ} → Eighth p → Eighth q → Eighth r → Eighth s → (i : ℕ) → Eighth (getD (four p q r s) i (pos 0))
+    each f g h k zero = f
+    each f g h k (suc zero) = g
+    each f g h k (suc (suc zero)) = h
+    each f g h k (suc (suc (suc zero))) = k
+    each f g h k (suc (suc (suc (suc n)))) = eighth-row 0 (omega arith)
 
 -- ---- the bytes of a line keep their places
 module _ {value slope : ℤ} (h : InLanes value slope) where

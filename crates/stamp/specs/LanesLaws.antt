@@ -1,18 +1,17 @@
 -- Laws: bytes side by side: sums and products without a carry, `&` byte by byte; the bytes of a line and what their top digits say.
-use mathlib.Core.Path.{_≡_, refl, sym, _∙_, ap, ap₂, subst}
+use mathlib.Core.Path.{_≡_, refl, sym, _∙_, ap, ap₂}
 use mathlib.Core.Bool.{Bool, true, false, _&&_}
-use mathlib.Core.List.{List, [], _∷_}
-use Prim.Native.Nat.{ℕ, zero, suc, _+_, _-_, _*_, _/_, _%_, _^_, _≤_, _<_}
+use Prim.Native.Nat.{ℕ, zero, suc, _+_, _-_, _*_, _/_, _%_, _^_, _<_}
 use native.Mathlib.Omega.{arith}
 use native.Mathlib.Nat.{mul-div-cancel, mul-comm}
 use lib.Bits.{bitAnd, and-block, and-high}
-use lib.IntN.{ℤ, pos, negsuc, _+ℤ_, _-ℤ_, _*ℤ_, natAbs}
-use lib.Signed.{_≤ℤ_, _<ℤ_, leZ}
+use lib.IntN.{ℤ, pos, _+ℤ_, natAbs}
+use lib.Signed.{leZ}
 use Rattle.laws.specs.Bound.{Bounded}
-use Rattle.laws.specs.Parts.{P, N, zord, of+, of-, of*, one-zero}
+use Rattle.laws.specs.Parts.{zord, of+, one-zero}
 use Rattle.laws.specs.Fit.{of-abs, le-true, le-false}
 use Rattle.laws.specs.Ends.{bit}
-use Rattle.stamp.specs.Lanes.{lanesOf, laneAt, InLanes}
+use Rattle.stamp.specs.Lanes.{lanesOf}
 
 -- ---- bytes side by side
 pub lanes-none : lanesOf (λ k. 0) 8 ≡ 0
