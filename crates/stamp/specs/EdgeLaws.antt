@@ -39,8 +39,11 @@ eighth-row k h = record { low = omega (arith, zord); high = omega (arith, zord) 
 pub eighth-read : {z : ℤ} → Eighth z → Eighth (toZ w32 (ofZ w32 z))
 eighth-read h = rw (rd w32 tt (eighth-bounded h)) h
 
+pub cornered-read : {u v : ℤ} → Cornered (at u v) → Cornered (at (toZ w32 (ofZ w32 u)) (toZ w32 (ofZ w32 v)))
+cornered-read h = record { x = eighth-read (h .x); y = eighth-read (h .y) }
+
 pub corner-read : (xs ys : List ℤ) → InEights xs ys → (i : ℕ) → Cornered (at (toZ w32 (ofZ w32 (getD xs i (pos 0)))) (toZ w32 (ofZ w32 (getD ys i (pos 0)))))
-corner-read xs ys h i = record { x = eighth-read (h .x i); y = eighth-read (h .y i) }
+corner-read xs ys h i = cornered-read (record { x = h .x i; y = h .y i })
 
 -- four corners, one by one
 pub in-eights : {x0 y0 x1 y1 x2 y2 x3 y3 : ℤ} → Cornered (at x0 y0) → Cornered (at x1 y1) → Cornered (at x2 y2) → Cornered (at x3 y3)
