@@ -1,12 +1,18 @@
 -- Laws: a row from the four edges, one after another; one answer for the promise.
-use mathlib.Core.Path.{_≡_, refl, sym, _∙_, subst}
+use mathlib.Core.Path.{_≡_, refl, sym, _∙_, ap₂, subst}
+use mathlib.Core.Bool.{true, _&&_}
 use mathlib.Core.List.{List, [], _∷_}
 use Prim.Native.Nat.{ℕ, zero, suc, _≤_, _<_}
 use native.Mathlib.Omega.{arith}
 use native.Mathlib.Decide.{decLe}
+use lib.Dec.{eqb, eqb→eq}
 use lib.IntN.{ℤ, pos}
 use lib.Signed.{_≤ℤ_}
+use mir.Syntax.{w32}
+use mir.Val.{SFits, ofZ}
 use Rattle.laws.specs.Parts.{zord}
+use Rattle.laws.specs.Bools.{true-is, and-left, and-right}
+use Rattle.laws.specs.Fit.{ofZ-inj}
 use Rattle.polygon.specs.Polygon.{Point, at}
 use Rattle.polygon.specs.Sides.{no-side}
 use Rattle.polygon.specs.PolygonLaws.{FillRunsSays-unique}
@@ -66,6 +72,13 @@ module _ (x0 y0 x1 y1 x2 y2 x3 y3 sign : ℤ) (g : Signed (four x0 x1 x2 x3) (fo
             let l = r .from x (k .0) (k .1) (h 3 (omega arith)) in
             s .from x (l .0) (l .1) (h 2 (omega arith));
       }
+
+-- `(a == b) & (e == d)`, as a fact of the two corners
+pub one-corner : {a b e d : ℤ} → SFits w32 a → SFits w32 b → SFits w32 e → SFits w32 d → eqb (ofZ w32 a) (ofZ w32 b) && eqb (ofZ w32 e) (ofZ w32 d) ≡ true → at a e ≡ at b d
+one-corner {a} {b} {e} {d} f g h k once =
+    let x = eqb (ofZ w32 a) (ofZ w32 b) in
+    let y = eqb (ofZ w32 e) (ofZ w32 d) in
+    ap₂ at (ofZ-inj f g (eqb→eq _ _ (true-is x (and-left x y once)))) (ofZ-inj h k (eqb→eq _ _ (true-is y (and-right x y once))))
 
 -- from a corner to itself there is no edge: every column is kept
 pub no-edge : (sign : ℤ) (i : Point) (y : ℤ) (lo hi : ℕ) → Kept (Inner sign i i y) lo hi lo hi

@@ -1,24 +1,20 @@
 -- `polygon::quad_row` meets its contract: the columns that are left after four edges, or after three where the third is none.
 use borrow.Author.Needs.{needs}
-use mathlib.Core.Path.{_≡_, sym, ap₂, subst}
-use mathlib.Core.Bool.{true, _&&_}
+use mathlib.Core.Path.{subst}
 use mathlib.Core.List.{List}
 use Prim.Native.Nat.{ℕ, _≤_}
 use lib.IntN.{ℤ, pos}
 use lib.ListN.{getD}
 use mir.Syntax.{w32}
-use mir.Val.{SFits, toZ, ofZ}
+use mir.Val.{toZ, ofZ}
 use mir.Facts.{toZ-ofZ}
 use Rattle.laws.specs.Bound.{Bounded}
-use Rattle.laws.specs.Bounds.{arg, ld, ldw, weq}
-use Rattle.laws.specs.Bools.{true-is, and-left, and-right}
-use Rattle.laws.specs.Fit.{ofZ-inj}
-use lib.Dec.{eqb, eqb→eq}
+use Rattle.laws.specs.Bounds.{arg, ld, weq}
 use Rattle.polygon.specs.Polygon.{Point, at, area2, corners}
 use Rattle.polygon.specs.Steps.{Placed, Kept, Inner, Closed, RowRun}
 use Rattle.polygon.specs.StepLaws.{sign-bounded, corner-placed}
 use Rattle.polygon.specs.OneRow.{four}
-use Rattle.polygon.specs.OneRowLaws.{four-edges, no-edge}
+use Rattle.polygon.specs.OneRowLaws.{one-corner, four-edges, no-edge}
 use Rattle.polygon.proofs.quad_row.Statement.{statement}
 use Rattle.polygon.proofs.quad_row.Tie as tie
 
@@ -61,12 +57,6 @@ module _ (e : tie.After-cut-row3) where
       (simp (toZ-ofZ, s .fits .x1, s .fits .y1, s .fits .x2, s .fits .y2, s .fits .sign) at (b .cut-row2 .ensures))
       (simp (toZ-ofZ, s .fits .x3, s .fits .y3, s .fits .x0, s .fits .y0, s .fits .sign) at (e .cut-row3 .ensures))
       k t
-
-one-corner : {a b e d : ℤ} → SFits w32 a → SFits w32 b → SFits w32 e → SFits w32 d → eqb (ofZ w32 a) (ofZ w32 b) && eqb (ofZ w32 e) (ofZ w32 d) ≡ true → at a e ≡ at b d
-one-corner {a} {b} {e} {d} f g h k once =
-    let x = eqb (ofZ w32 a) (ofZ w32 b) in
-    let y = eqb (ofZ w32 e) (ofZ w32 d) in
-    ap₂ at (ofZ-inj f g (eqb→eq _ _ (true-is x (and-left x y once)))) (ofZ-inj h k (eqb→eq _ _ (true-is y (and-right x y once))))
 
 closed-requires : tie.Need-closed-requires
 closed-requires c κs = search needs
