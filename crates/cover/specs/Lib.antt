@@ -7,3 +7,5 @@ pub mod StepLaws
 pub mod Figures
 pub mod ReachRows
 pub mod ReachRowsLaws
+pub mod Stamps
+pub mod StampLaws

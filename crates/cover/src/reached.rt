@@ -15,7 +15,7 @@ pub struct Rows {
 }
 
 // The row reach; an empty one has no row.
-fn rows_of(kind: Kind, h: usize) -> Rows
+pub(crate) fn rows_of(kind: Kind, h: usize) -> Rows
     requires rows { ⌜ h ≤ 256 ⌝ }
     requires places { ⌜ badPlaces kind ≡ false ⌝ }
     ensures { λ r. ⌜ r ≡ rowsOf kind h ⌝ }
@@ -37,7 +37,7 @@ fn rows_of(kind: Kind, h: usize) -> Rows
 }
 
 // Rows and columns changed for each other, so that the row reach tells of columns too.
-fn turned(kind: Kind) -> Kind
+pub(crate) fn turned(kind: Kind) -> Kind
     ensures { λ r. ⌜ r ≡ turned kind ⌝ }
 {
     match kind {

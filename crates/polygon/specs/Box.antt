@@ -130,28 +130,28 @@ not-beyond (a ∷ b ∷ d ∷ r) p m n h g =
     absurd (omega (arith, zord))
 
 -- ---- the lowest and the highest
-lesser-left : (a b : ℤ) → lesser a b ≤ℤ a
+pub lesser-left : (a b : ℤ) → lesser a b ≤ℤ a
 lesser-left a b = by (leZ a b) refl
   where
     by : (t : Bool) → leZ a b ≡ t → cond t a b ≤ℤ a
     by true e = omega (arith, zord)
     by false e = let h : b <ℤ a = le-false a b e in omega (arith, zord)
 
-lesser-right : (a b : ℤ) → lesser a b ≤ℤ b
+pub lesser-right : (a b : ℤ) → lesser a b ≤ℤ b
 lesser-right a b = by (leZ a b) refl
   where
     by : (t : Bool) → leZ a b ≡ t → cond t a b ≤ℤ b
     by true e = le-true a b e
     by false e = omega (arith, zord)
 
-greater-left : (a b : ℤ) → a ≤ℤ greater a b
+pub greater-left : (a b : ℤ) → a ≤ℤ greater a b
 greater-left a b = by (leZ a b) refl
   where
     by : (t : Bool) → leZ a b ≡ t → a ≤ℤ cond t b a
     by true e = le-true a b e
     by false e = omega (arith, zord)
 
-greater-right : (a b : ℤ) → b ≤ℤ greater a b
+pub greater-right : (a b : ℤ) → b ≤ℤ greater a b
 greater-right a b = by (leZ a b) refl
   where
     by : (t : Bool) → leZ a b ≡ t → b ≤ℤ cond t b a

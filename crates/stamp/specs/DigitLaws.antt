@@ -10,8 +10,9 @@ use lib.Count.{trailingZeros, under}
 use Rattle.laws.specs.Ends.{bit}
 use Rattle.laws.specs.RowFold.{rowsFrom}
 use Rattle.laws.specs.RowFoldLaws.{rows-none}
-use Rattle.stamp.specs.Stamp.{digitsFrom}
+use Rattle.stamp.specs.Stamp.{digitsFrom, stampOf}
 use Rattle.stamp.specs.Digits.{digitSteps, rowSteps}
+use Rattle.stamp.specs.StampLaws.{digits-below}
 
 -- ---- the next digit that is 1
 module _ {E : Type 0} (step : ℕ → E → E) where
@@ -87,15 +88,6 @@ digits-half q i n = by (q i)
     by true = omega arith
     by false = omega arith
 
-pub digits-less : (q : ℕ → Bool) (i n : ℕ) → digitsFrom q i n < 2 ^ n
-unfolding digitsFrom
-digits-less q i zero = omega arith
-digits-less q i (suc n) = by (digits-less q (suc i) n) (q i)
-  where
-    by : digitsFrom q (suc i) n < 2 ^ n → (b : Bool) → bit b + 2 * digitsFrom q (suc i) n < 2 ^ suc n
-    by l true = omega (arith, pow-suc 2 n)
-    by l false = omega (arith, pow-suc 2 n)
-
 -- the first of more steps
 rows-first : {E : Type 0} (f : ℕ → E → E) (a k : ℕ) (s : E) → rowsFrom f (suc a) k (f a s) ≡ rowsFrom f a (suc k) s
 unfolding rowsFrom
@@ -170,10 +162,10 @@ digits-split q i (suc m) n =
 
 -- a row of eight
 pub digits-row : (q : ℕ → Bool) (i n : ℕ) → digitsFrom q i (8 + n) % 256 ≡ digitsFrom q i 8
-digits-row q i n = let e = digits-split q i 8 n in let l : digitsFrom q i 8 < 256 = digits-less q i 8 in omega arith
+digits-row q i n = let e = digits-split q i 8 n in let l : digitsFrom q i 8 < 256 = digits-below q i 8 in omega arith
 
 pub digits-rows : (q : ℕ → Bool) (i n : ℕ) → digitsFrom q i (8 + n) / 256 ≡ digitsFrom q (i + 8) n
-digits-rows q i n = let e = digits-split q i 8 n in let l : digitsFrom q i 8 < 256 = digits-less q i 8 in omega arith
+digits-rows q i n = let e = digits-split q i 8 n in let l : digitsFrom q i 8 < 256 = digits-below q i 8 in omega arith
 
 -- no row is left
 pub row-steps-none : {E : Type 0} (step : ℕ → ℕ → E → E) (y n : ℕ) (s : E) → ((z : ℕ) (t : E) → step z 0 t ≡ t) → rowSteps step y n 0 s ≡ s
@@ -196,3 +188,19 @@ row-steps-test step q top k (suc n) s =
     ∙ ap (λ (y : ℕ). rowSteps step y n (digitsFrom q (suc k * 8) (n * 8)) (step (top + k) (digitsFrom q (k * 8) 8) s)) g
     ∙ row-steps-test step q top (suc k) n (step (top + k) (digitsFrom q (k * 8) 8) s)
     ∙ rows-first (λ j. step (top + j) (digitsFrom q (j * 8) 8)) k n s
+
+-- tests that agree have the same digits
+digits-same : (p q : ℕ → Bool) (i n : ℕ) → ((k : ℕ) → p k ≡ q k) → digitsFrom p i n ≡ digitsFrom q i n
+unfolding digitsFrom
+digits-same p q i zero h = refl
+digits-same p q i (suc n) h = ap₂ (λ (b : Bool) (d : ℕ). bit b + 2 * d) (h i) (digits-same p q (suc i) n h)
+
+-- a stamp of a test that was moved
+pub stamp-moved : (p q : ℕ → ℕ → Bool) (left top : ℕ) → ((x y : ℕ) → p x y ≡ q (left + x) (top + y)) → stampOf p 0 0 ≡ stampOf q left top
+stamp-moved p q left top h =
+    digits-same (λ i. p (0 + i % 8) (0 + i / 8)) (λ i. q (left + i % 8) (top + i / 8)) 0 64
+    (λ i. let a : 0 + i % 8 ≡ i % 8 = omega arith in let b : 0 + i / 8 ≡ i / 8 = omega arith in ap₂ p a b ∙ h (i % 8) (i / 8))
+
+-- stamps of tests that agree
+pub stamp-same : (p q : ℕ → ℕ → Bool) (left top : ℕ) → ((x y : ℕ) → p x y ≡ q x y) → stampOf p left top ≡ stampOf q left top
+stamp-same p q left top h = digits-same (λ i. p (left + i % 8) (top + i / 8)) (λ i. q (left + i % 8) (top + i / 8)) 0 64 (λ i. h (left + i % 8) (top + i / 8))

@@ -1,9 +1,14 @@
--- Rules: what a loop over a stamp's pixels does: a step for each digit that is 1, or for each row of eight digits. Over any state.
-use mathlib.Core.Bool.{Bool, cond}
+-- Rules: where a stamp lies, and what a loop over its pixels does: a step for each digit that is 1, or for each row of eight digits. Over any state.
+use mathlib.Core.Bool.{Bool, true, cond}
 use mathlib.Core.Path.{_≡_}
-use Prim.Native.Nat.{ℕ, zero, suc, _+_, _/_, _%_, _^_}
+use Prim.Native.Nat.{ℕ, zero, suc, _+_, _/_, _%_, _^_, _≤_, _<_}
 use lib.Dec.{eqb}
 use Rattle.laws.specs.Ends.{Ends, none, ends, endsOf}
+
+-- every pixel at which the test holds lies in the window of eight rows of eight pixels, and in the picture
+pub record InWindow (p : ℕ → ℕ → Bool) (left top w h : ℕ) : Type 0 where
+  pub columns : (x y : ℕ) → p x y ≡ true → (left ≤ x) × (x < left + 8) × (x < w)
+  pub rows : (x y : ℕ) → p x y ≡ true → (top ≤ y) × (y < top + 8) × (y < h)
 
 -- digit i of b is 1
 abbrev pub digitIs : ℕ → ℕ → Bool

@@ -15,13 +15,8 @@ use Rattle.laws.specs.PixelSums.{addSpan, spanSum, pointRow, pointSum}
 use Rattle.laws.specs.RowFold.{rowsFrom}
 use Rattle.laws.specs.RowFoldLaws.{rows-none, rows-split, rows-still, rows-window, rows-same, point-rows, span-rows}
 use Rattle.stamp.specs.Stamp.{digitsFrom, stampOf}
-use Rattle.stamp.specs.Digits.{digitIs, moved, rowEnds, digitSteps, rowSteps}
+use Rattle.stamp.specs.Digits.{InWindow, digitIs, moved, rowEnds, digitSteps, rowSteps}
 use Rattle.stamp.specs.DigitLaws.{steps-test, digit-is, row-steps-test}
-
--- every pixel at which the test holds lies in the window of eight rows of eight pixels, and in the picture
-pub record InWindow (p : ℕ → ℕ → Bool) (left top w h : ℕ) : Type 0 where
-  pub columns : (x y : ℕ) → p x y ≡ true → (left ≤ x) × (x < left + 8) × (x < w)
-  pub rows : (x y : ℕ) → p x y ≡ true → (top ≤ y) × (y < top + 8) × (y < h)
 
 -- ---- steps one after another
 module _ {E : Type 0} where

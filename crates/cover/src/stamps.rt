@@ -1,0 +1,116 @@
+// The covered pixels of a tiny shape as the bits of one number: eight rows of eight pixels.
+ghost use mathlib.Core.Path.{_≡_};
+ghost use mathlib.Core.Bool.{true, false};
+ghost use Prim.Native.Nat.{_≤_};
+ghost use Rattle.laws.specs.Bound.{Bounded};
+ghost use Rattle.refusal.specs.Refusals.{Sized};
+ghost use Rattle.cover.specs.declared.Kind.the-variants.{Circle, Quad};
+ghost use Rattle.cover.specs.Cover.{badPlaces};
+ghost use Rattle.cover.specs.Stamps.{Stamped, StampSays, FirstColumnSays, Among};
+use crate::Kind;
+use crate::reached::rows_of;
+use crate::reached::turned;
+
+// The first of the columns that a shape can reach.
+pub fn first_column(kind: Kind, w: usize) -> usize
+    requires columns { ⌜ w ≤ 256 ⌝ }
+    requires places { ⌜ badPlaces kind ≡ false ⌝ }
+    ensures { λ r. ⌜ FirstColumnSays kind w r ⌝ }
+{
+    let columns = rows_of(turned(kind), w);
+    columns.top
+}
+
+// Rows first to last lie among eight from `from` on, and among n.
+fn among(first: i32, last: i32, from: usize, n: usize) -> bool
+    requires rows { ⌜ Bounded 16382 first × Bounded 16382 last ⌝ }
+    requires places { ⌜ (from ≤ 255) × (n ≤ 256) ⌝ }
+    ensures { λ r. ⌜ (r ≡ true → Among first last from n) ⌝ }
+{
+    let low = from as i32;
+    (low <= first) & (last - low <= 7) & (last < n as i32)
+}
+
+// A circle of radius 1, 2 or 3 that lies in the picture. Its first column and row are those of the stamp.
+fn circle_stamp(cx: i32, cy: i32, r: i32, left: usize, top: usize, w: usize, h: usize) -> u64
+    requires circle { ⌜ Bounded 8191 cx × Bounded 8191 cy × Bounded 8191 r ⌝ }
+    requires window { ⌜ (left ≤ 255) × (top ≤ 255) × (w ≤ 256) × (h ≤ 256) ⌝ }
+    ensures { λ s. ⌜ ((s ≡ 0 → ⊥) → Stamped (Circle cx cy r) left top w h s) ⌝ }
+{
+    if (1 <= r) & (r <= 3) & (cx - r <= left as i32) & (cy - r <= top as i32) {
+        if among(cx - r, cx + r, left, w) & among(cy - r, cy + r, top, h) {
+            return stamp::circle_stamp(r);
+        }
+    }
+    0
+}
+
+// Four corners that lie in the picture, among eight columns and eight rows.
+fn polygon_stamp(
+    x0: i32,
+    y0: i32,
+    x1: i32,
+    y1: i32,
+    x2: i32,
+    y2: i32,
+    x3: i32,
+    y3: i32,
+    left: usize,
+    top: usize,
+    w: usize,
+    h: usize,
+) -> u64
+    requires corners { ⌜ Bounded 8191 x0 × Bounded 8191 y0 × Bounded 8191 x1 × Bounded 8191 y1 × Bounded 8191 x2 × Bounded 8191 y2 × Bounded 8191 x3 × Bounded 8191 y3 ⌝ }
+    requires window { ⌜ (left ≤ 255) × (top ≤ 255) × (w ≤ 256) × (h ≤ 256) ⌝ }
+    ensures { λ s. ⌜ ((s ≡ 0 → ⊥) → Stamped (Quad x0 y0 x1 y1 x2 y2 x3 y3) left top w h s) ⌝ }
+{
+    let xs = [x0, x1, x2, x3];
+    let ys = [y0, y1, y2, y3];
+    let columns = polygon::extent_of(&xs);
+    let rows = polygon::extent_of(&ys);
+    if among(columns.least, columns.greatest, left, w) & among(rows.least, rows.greatest, top, h) {
+        let x = left as i32;
+        let y = top as i32;
+        return stamp::polygon_stamp(
+            x0 - x,
+            y0 - y,
+            x1 - x,
+            y1 - y,
+            x2 - x,
+            y2 - y,
+            x3 - x,
+            y3 - y,
+        );
+    }
+    0
+}
+
+fn kind_stamp(kind: Kind, left: usize, top: usize, w: usize, h: usize) -> u64
+    requires sizes { ⌜ Sized w h ⌝ }
+    requires places { ⌜ badPlaces kind ≡ false ⌝ }
+    requires window { ⌜ (left ≤ 255) × (top ≤ 255) ⌝ }
+    ensures { λ r. ⌜ ((r ≡ 0 → ⊥) → Stamped kind left top w h r) ⌝ }
+{
+    match kind {
+        Kind::Circle(cx, cy, r) => circle_stamp(cx, cy, r, left, top, w, h),
+        // from a corner to itself there is no edge
+        Kind::Triangle(x0, y0, x1, y1, x2, y2) => {
+            polygon_stamp(x0, y0, x1, y1, x2, y2, x2, y2, left, top, w, h)
+        }
+        Kind::Quad(x0, y0, x1, y1, x2, y2, x3, y3) => {
+            polygon_stamp(x0, y0, x1, y1, x2, y2, x3, y3, left, top, w, h)
+        }
+    }
+}
+
+// The covered pixels of eight rows of eight, from column left and row top on; 0 where they are not known.
+pub fn stamp_of(kind: Kind, left: usize, top: usize, w: usize, h: usize) -> u64
+    requires sizes { ⌜ Sized w h ⌝ }
+    requires places { ⌜ badPlaces kind ≡ false ⌝ }
+    ensures { λ r. ⌜ StampSays kind left top w h r ⌝ }
+{
+    if (255 < left) | (255 < top) {
+        return 0;
+    }
+    kind_stamp(kind, left, top, w, h)
+}
