@@ -1,9 +1,9 @@
 -- Laws: the loops over a stamp, and what they come to.
-use mathlib.Core.Path.{_≡_, refl, sym, _∙_, ap, subst}
-use mathlib.Core.Bool.{true}
+use mathlib.Core.Path.{_≡_, refl, sym, _∙_, ap, ap₂, subst}
+use mathlib.Core.Bool.{Bool, true}
 use mathlib.Core.List.{List}
 use Prim.Native.Nat.{ℕ, zero, suc, _+_, _-_, _*_, _/_, _%_, _^_, _≤_, _<_}
-use native.Mathlib.Nat.{pow-suc, mul-comm, div-div-eq-div-mul}
+use native.Mathlib.Nat.{pow-suc, mul-comm, mul-assoc, mul-le-mul-right, div-div-eq-div-mul}
 use native.Mathlib.Omega.{arith}
 use lib.Dec.{eqb, eqb→eq}
 use lib.Ieee.{Float}
@@ -17,7 +17,14 @@ use Rattle.sums.specs.declared.ShapeSums.{ShapeSums}
 use Rattle.sums.specs.Sums.{noSums, plus, minus}
 use Rattle.table.specs.Layout.{placeOf}
 use Rattle.stamp.specs.Digits.{digitIs, digitSteps, rowSteps, rowEnds}
-use Rattle.stamp.specs.DigitLaws.{Next, next, steps-none, row-steps-none}
+use Rattle.stamp.specs.DigitLaws.{Next, next, steps-none, row-steps-none, digit-test, digits-row-at}
+use Rattle.stamp.specs.StampLaws.{digits-below}
+use Rattle.stamp.specs.Stamp.{digitsFrom}
+use Rattle.stamp.specs.WindowLaws.{stamp-points, stamp-spans}
+use Rattle.cover.specs.declared.Kind.{Kind}
+use Rattle.cover.specs.Cover.{covered}
+use Rattle.cover.specs.Stamps.{Stamped}
+use Rattle.score.specs.Scoring.{pixelAt, pointSums, spanSums}
 use Rattle.stamp.specs.RowLaws.{row-some, row-ends, row-none}
 use Rattle.score.specs.StampSums.{stampPixel, stampPoints, StampIn, stampRow, stampSpans, RowIn, RowsIn}
 
@@ -103,11 +110,11 @@ pub some-left : (n b : ℕ) → b < 256 ^ n → 0 < b → 0 < n
 some-left zero b l p = absurd (omega arith)
 some-left (suc n) b l p = omega arith
 
-pub row-here : (w left y m n b : ℕ) → RowsIn w left y m n b → RowIn w left y m (b % 256)
-row-here w left y m n b g =
+pub row-here : (w left y m n b : ℕ) → 0 < n → RowsIn w left y m n b → RowIn w left y m (b % 256)
+row-here w left y m n b l g =
     let e : b / 256 ^ 0 ≡ b = omega arith in
     let f : y + 0 ≡ y = omega arith in
-    rw (e, f) at (g .1 0)
+    rw (e, f) at (g .1 0 l)
 
 pub rows-behind : (w left y m n b : ℕ) → 0 < n → RowsIn w left y m n b → RowsIn w left (y + 1) m (n - 1) (b / 256)
 rows-behind w left y m zero b l g = absurd (omega arith)
@@ -115,10 +122,63 @@ rows-behind w left y m (suc n) b l g =
     let e : suc n - 1 ≡ n = omega arith in
     let p = pow-suc 256 n in
     let q : b < 256 ^ suc n = g .0 in
-    (rw e (omega (arith, p, q)), λ k. next k)
+    (rw e (omega (arith, p, q)), λ k u. next k (omega (arith, e, u)))
   where
-    next : (k : ℕ) → RowIn w left (y + 1 + k) m (b / 256 / 256 ^ k % 256)
-    next k =
+    next : (k : ℕ) → k < n → RowIn w left (y + 1 + k) m (b / 256 / 256 ^ k % 256)
+    next k u =
         let e : y + suc k ≡ y + 1 + k = omega arith in
         let f : b / 256 ^ suc k ≡ b / 256 / 256 ^ k = ap (λ (d : ℕ). b / d) (pow-suc 256 k ∙ mul-comm (256 ^ k) 256) ∙ sym (div-div-eq-div-mul b 256 (256 ^ k)) in
-        rw (e, f) at (g .1 (suc k))
+        rw (e, f) at (g .1 (suc k) (omega arith))
+
+-- ---- the stamp of a shape
+module _ (kind : Kind) (left top w h bits : ℕ) (g : Stamped kind left top w h bits) where
+  abbrev test : ℕ → Bool
+  test i = covered kind (left + i % 8) (top + i / 8)
+
+  -- a pixel's numbers lie in a picture
+  pub stamp-in : (n : ℕ) → n ≡ h * w * 3 → StampIn w left top n 0 bits
+  stamp-in n e j o =
+      let t = digit-test test 0 64 j (ap (λ (b : ℕ). b / 2 ^ j % 2) (sym (g .is)) ∙ o) in
+      let z : 0 + j ≡ j = omega arith in
+      let a = g .window .columns (left + (0 + j) % 8) (top + (0 + j) / 8) (t .1) in
+      let b = g .window .rows (left + (0 + j) % 8) (top + (0 + j) / 8) (t .1) in
+      let m : (top + (0 + j) / 8 + 1) * w ≤ h * w = mul-le-mul-right w (omega (arith, b .2)) in
+      omega (arith, a .2, m, e)
+
+  pub stamp-is-points : (target canvas : List Float) → stampPoints w target canvas left top 0 bits noSums ≡ pointSums kind w h target canvas
+  unfolding pointSums
+  stamp-is-points target canvas =
+      ap (λ (b : ℕ). stampPoints w target canvas left top 0 b noSums) (g .is)
+      ∙ stamp-points noSums plus minus (pixelAt w target canvas) (covered kind) left top w h (g .window)
+
+  -- a row that has a pixel lies in a table
+  pub rows-in : (m : ℕ) → m ≡ h * (w + 1) * 15 → RowsIn w left top m 8 bits
+  rows-in m e = (rw (g .is) (digits-below test 0 64), λ k l. rw (ap (λ (b : ℕ). b / 256 ^ k % 256) (g .is) ∙ digits-row-at test 0 8 k l) (row k l))
+    where
+      here : (k j : ℕ) → digitsFrom test (0 + k * 8) 8 / 2 ^ j % 2 ≡ 1 → (left + j < w) × (top + k < h)
+      here k j o =
+          let t = digit-test test (0 + k * 8) 8 j o in
+          let a : (0 + k * 8 + j) % 8 ≡ j = omega (arith, t .0) in
+          let b : (0 + k * 8 + j) / 8 ≡ k = omega (arith, t .0) in
+          let c : covered kind (left + j) (top + k) ≡ true = ap₂ (λ (p q : ℕ). covered kind (left + p) (top + q)) (sym a) (sym b) ∙ t .1 in
+          (g .window .columns (left + j) (top + k) c .2, g .window .rows (left + j) (top + k) c .2)
+
+      row : (k : ℕ) → k < 8 → RowIn w left (top + k) m (digitsFrom test (0 + k * 8) 8)
+      row k l = record {
+        column = λ j o. here k j o .0;
+        lent = λ n.
+            let d = digitsFrom test (0 + k * 8) 8 in
+            let s : 0 < d = omega (arith, n) in
+            let q = next (λ i (t : ShapeSums). t) 8 8 d 0 noSums (omega arith) (digits-below test (0 + k * 8) 8) s in
+            let y = here k (trailingZeros 8 d) (q .one) .1 in
+            let p : (top + k + 1) * ((w + 1) * 15) ≤ h * ((w + 1) * 15) = mul-le-mul-right ((w + 1) * 15) (omega (arith, y)) in
+            let r : h * (w + 1) * 15 ≡ h * ((w + 1) * 15) = mul-assoc h (w + 1) 15 in
+            let u : (top + k + 1) * ((w + 1) * 15) ≡ (top + k) * ((w + 1) * 15) + (w + 1) * 15 = omega arith in
+            omega (arith, p, r, u, e);
+      }
+
+  pub stamp-is-spans : (table : List Float) → stampSpans w table left top 8 bits noSums ≡ spanSums kind w h table
+  unfolding spanSums
+  stamp-is-spans table =
+      ap (λ (b : ℕ). stampSpans w table left top 8 b noSums) (g .is)
+      ∙ stamp-spans (covered kind) left top w h (g .window) noSums plus minus (placeOf w table)

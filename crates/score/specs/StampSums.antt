@@ -36,4 +36,4 @@ pub record RowIn (w left y m row : ℕ) : Type 0 where
   pub lent : (row ≡ 0 → ⊥) → y * ((w + 1) * 15) + (w + 1) * 15 ≤ m
 
 abbrev pub RowsIn : ℕ → ℕ → ℕ → ℕ → ℕ → ℕ → Type 0
-RowsIn w left y m n b = (b < 256 ^ n) × ((k : ℕ) → RowIn w left (y + k) m (b / 256 ^ k % 256))
+RowsIn w left y m n b = (b < 256 ^ n) × ((k : ℕ) → k < n → RowIn w left (y + k) m (b / 256 ^ k % 256))

@@ -2,7 +2,7 @@
 use mathlib.Core.Path.{_≡_, refl, sym, _∙_, ap, ap₂, subst}
 use mathlib.Core.Bool.{Bool, true, false, cond}
 use Prim.Native.Nat.{ℕ, zero, suc, _+_, _-_, _*_, _/_, _%_, _^_, _≤_, _<_}
-use native.Mathlib.Nat.{pow-suc, zero-div, mul-comm, mul-assoc}
+use native.Mathlib.Nat.{pow-suc, zero-div, mul-comm, mul-assoc, div-div-eq-div-mul}
 use native.Mathlib.Omega.{arith}
 use lib.Dec.{eqb}
 use lib.Pow.{shr-shr}
@@ -166,6 +166,22 @@ digits-row q i n = let e = digits-split q i 8 n in let l : digitsFrom q i 8 < 25
 
 pub digits-rows : (q : ℕ → Bool) (i n : ℕ) → digitsFrom q i (8 + n) / 256 ≡ digitsFrom q (i + 8) n
 digits-rows q i n = let e = digits-split q i 8 n in let l : digitsFrom q i 8 < 256 = digits-below q i 8 in omega arith
+
+-- row k of some
+pub digits-row-at : (q : ℕ → Bool) (i n k : ℕ) → k < n → digitsFrom q i (n * 8) / 256 ^ k % 256 ≡ digitsFrom q (i + k * 8) 8
+digits-row-at q i zero k l = absurd (omega arith)
+digits-row-at q i (suc n) zero l =
+    let e : suc n * 8 ≡ 8 + n * 8 = omega arith in
+    let f : i ≡ i + 0 * 8 = omega arith in
+    let g : digitsFrom q i (suc n * 8) / 256 ^ 0 ≡ digitsFrom q i (suc n * 8) = omega arith in
+    ap (λ (b : ℕ). b % 256) (g ∙ ap (digitsFrom q i) e) ∙ digits-row q i (n * 8) ∙ ap (λ (j : ℕ). digitsFrom q j 8) f
+digits-row-at q i (suc n) (suc k) l =
+    let e : suc n * 8 ≡ 8 + n * 8 = omega arith in
+    let f : i + 8 + k * 8 ≡ i + suc k * 8 = omega arith in
+    let g : digitsFrom q i (suc n * 8) / 256 ^ suc k ≡ digitsFrom q (i + 8) (n * 8) / 256 ^ k =
+    ap (λ (d : ℕ). digitsFrom q i (suc n * 8) / d) (pow-suc 256 k ∙ mul-comm (256 ^ k) 256) ∙ sym (div-div-eq-div-mul (digitsFrom q i (suc n * 8)) 256 (256 ^ k))
+    ∙ ap (λ (b : ℕ). b / 256 ^ k) (ap (λ (m : ℕ). digitsFrom q i m / 256) e ∙ digits-rows q i (n * 8)) in
+    ap (λ (b : ℕ). b % 256) g ∙ digits-row-at q (i + 8) n k (omega arith) ∙ ap (λ (j : ℕ). digitsFrom q j 8) f
 
 -- no row is left
 pub row-steps-none : {E : Type 0} (step : ℕ → ℕ → E → E) (y n : ℕ) (s : E) → ((z : ℕ) (t : E) → step z 0 t ≡ t) → rowSteps step y n 0 s ≡ s

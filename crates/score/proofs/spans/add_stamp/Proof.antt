@@ -47,7 +47,7 @@ module _ (c : tie.In-loop Inv-loop μ-loop) where
   row =
       let a = start .args in
       let l = c .before .loop in
-      row-here (a .w) (a .left) (l .y) (length (a .table .now)) (a .top + 8 - l .y) (l .b) (l .inv .3)
+      row-here (a .w) (a .left) (l .y) (length (a .table .now)) (a .top + 8 - l .y) (l .b) left-over (l .inv .3)
 
 cast-add-stamp-row : tie.Need-cast-add-stamp-row Inv-loop μ-loop
 cast-add-stamp-row c = omega arith
