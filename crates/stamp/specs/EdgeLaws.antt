@@ -175,8 +175,19 @@ module _ (x0 y0 x1 y1 x2 y2 x3 y3 sign : ℤ) (g : Signed (four x0 x1 x2 x3) (fo
   four-tests k =
       let area = area2 (corners (four x0 x1 x2 x3) (four y0 y1 y2 y3)) in
       let p = at u (pos k) in
-      sym (and-order (test (at x0 y0) (at x1 y1) k) (test (at x1 y1) (at x2 y2) k) (test (at x2 y2) (at x3 y3) k) (test (at x3 y3) (at x0 y0) k))
-      ∙ sym (rw (g .some, edge-sign area p (at x0 y0) (at x1 y1), edge-sign area p (at x1 y1) (at x2 y2), edge-sign area p (at x2 y2) (at x3 y3), edge-sign area p (at x3 y3) (at x0 y0), g .is) refl)
+      let a = test (at x0 y0) (at x1 y1) k in
+      let b = test (at x1 y1) (at x2 y2) k in
+      let d = test (at x2 y2) (at x3 y3) k in
+      let e = test (at x3 y3) (at x0 y0) k in
+      sym (and-order a b d e)
+      ∙ sym (rw (
+        g .some,
+        edge-sign area p (at x0 y0) (at x1 y1),
+        edge-sign area p (at x1 y1) (at x2 y2),
+        edge-sign area p (at x2 y2) (at x3 y3),
+        edge-sign area p (at x3 y3) (at x0 y0),
+        ← g .is,
+      ) (refl {a = a && (b && (d && (e && true)))}))
 
   -- from a corner to itself there is no edge
   three-tests : at x2 y2 ≡ at x3 y3 → (k : ℕ) → three k ≡ covers k

@@ -1,13 +1,11 @@
 -- Rules: a byte for each row, the first row's lowest; what the private functions below polygon_stamp ask and promise.
-use mathlib.Core.Path.{_≡_}
 use mathlib.Core.Bool.{Bool}
-use mathlib.Core.List.{List}
-use Prim.Native.Nat.{ℕ, zero, suc, _+_, _-_, _*_, _≤_}
+use Prim.Native.Nat.{ℕ, zero, suc, _+_, _*_, _≤_}
 use lib.IntN.{ℤ, pos, _+ℤ_, _*ℤ_, natAbs}
-use lib.Signed.{_≤ℤ_, leZ}
+use lib.Signed.{leZ}
 use Rattle.laws.specs.Bound.{Bounded}
-use Rattle.polygon.specs.Polygon.{Point, side, corners, polygonPixel}
-use Rattle.stamp.specs.Stamp.{digitsFrom, Eighth}
+use Rattle.polygon.specs.Polygon.{Point, side}
+use Rattle.stamp.specs.Stamp.{Eighth}
 
 -- n bytes
 unfoldable pub lanesOf : (ℕ → ℕ) → ℕ → ℕ
@@ -31,9 +29,3 @@ innerTest sign i j p = leZ (pos 0) (sign *ℤ side i j p)
 pub record Cornered (p : Point) : Type 0 where
   pub x : Eighth (p .px)
   pub y : Eighth (p .py)
-
--- the columns from x on are in the number: a digit for each in every row
-pub record Stamped (xs ys : List ℤ) (x : ℤ) (bits : ℕ) : Type 0 where
-  pub low : pos 0 ≤ℤ x
-  pub high : x ≤ℤ pos 8
-  pub is : bits ≡ lanesOf (λ k. digitsFrom (λ j. polygonPixel (corners xs ys) j k) (natAbs x) (8 - natAbs x)) 8
