@@ -29,7 +29,7 @@ use Rattle.cover.specs.Stamps.{Stamped, StampSays, FirstColumnSays, Amon
 
 -- two answers that are not 0 are equal; 0 is an answer for any shape, also one whose stamp is not
 pub StampSays-unique : (kind : Kind) (left top w h r s : ℕ) → StampSays kind left top w h r → StampSays kind left top w h s → (r ≡ 0 → ⊥) → (s ≡ 0 → ⊥) → r ≡ s
-StampSays-unique kind left top w h r s f g a b = f a .0 .is ∙ sym (g b .0 .is)
+StampSays-unique kind left top w h r s f g a b = f a .is ∙ sym (g b .is)
 
 pub FirstColumnSays-unique : (kind : Kind) (w r s : ℕ) → FirstColumnSays kind w r → FirstColumnSays kind w s → r ≡ s
 FirstColumnSays-unique kind w r s f g = f ∙ sym g
@@ -63,11 +63,19 @@ moved-circle cx cy r left top e f u v = ap₂ (λ (a b : ℤ). leZ (pos 1) r && 
     one z n k g = let p : pos (n + k) ≡ (z -ℤ r) +ℤ pos k = ap (λ (a : ℤ). a +ℤ pos k) (sym g) in
         sym (ap (λ (a : ℤ). a -ℤ z) p ∙ ring (z ∷ r ∷ pos k ∷ []) (((x 0 ⊟ x 1) ⊞ x 2) ⊟ x 0) (x 2 ⊟ x 1) tt)
 
-pub circle-stamped : (cx cy r : ℤ) (left top w h s : ℕ) → cx -ℤ r ≡ pos left → cy -ℤ r ≡ pos top
-    → Among (cx -ℤ r) (cx +ℤ r) left w → Among (cy -ℤ r) (cy +ℤ r) top h → CircleStampSays r s → Stamped (Circle cx cy r) left top w h s
-circle-stamped cx cy r left top w h s e f a b g = record {
+-- a small circle is at most seven pixels wide
+circle-among : (z r : ℤ) (from n : ℕ) → r ≤ℤ pos 3 → z -ℤ r ≡ pos from → (z +ℤ r) <ℤ pos n → Among (z -ℤ r) (z +ℤ r) from n
+circle-among z r from n l e f = record {
+  low = omega (arith, zord, of- z r, e);
+  high = omega (arith, zord, of- z r, of+ z r, e);
+  inside = f;
+}
+
+pub circle-stamped : (cx cy r : ℤ) (left top w h s : ℕ) → r ≤ℤ pos 3 → cx -ℤ r ≡ pos left → (cx +ℤ r) <ℤ pos w → cy -ℤ r ≡ pos top → (cy +ℤ r) <ℤ pos h
+    → CircleStampSays r s → Stamped (Circle cx cy r) left top w h s
+circle-stamped cx cy r left top w h s l e a f b g = record {
   is = g ∙ stamp-moved (λ u v. allHold (discTests r r r (pos u) (pos v))) (covered (Circle cx cy r)) left top (moved-circle cx cy r left top e f);
-  window = in-window (Circle cx cy r) left top w h a b;
+  window = in-window (Circle cx cy r) left top w h (circle-among cx r left w l e a) (circle-among cy r top h l f b);
 }
 
 -- ---- corners that are moved

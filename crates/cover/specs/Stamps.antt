@@ -1,6 +1,6 @@
 -- Rules: the covered pixels of a tiny shape as a stamp: eight rows of eight pixels, as the binary digits of a number.
 use mathlib.Core.Path.{_≡_}
-use Prim.Native.Nat.{ℕ, _+_, _≤_}
+use Prim.Native.Nat.{ℕ, _+_}
 use lib.IntN.{ℤ, pos}
 use lib.Signed.{_≤ℤ_, _<ℤ_}
 use Rattle.cover.specs.declared.reached.Rows.{Rows}
@@ -17,7 +17,7 @@ pub record Stamped (kind : Kind) (left top w h r : ℕ) : Type 0 where
 
 -- 0 where no stamp is known, or nothing is covered
 abbrev pub StampSays : Kind → ℕ → ℕ → ℕ → ℕ → ℕ → Type 0
-StampSays kind left top w h r = (r ≡ 0 → ⊥) → Stamped kind left top w h r × (left ≤ 255) × (top ≤ 255)
+StampSays kind left top w h r = (r ≡ 0 → ⊥) → Stamped kind left top w h r
 
 -- the first column of the reach is the first row of the turned shape's
 abbrev pub FirstColumnSays : Kind → ℕ → ℕ → Type 0

@@ -2,11 +2,13 @@
 ghost use mathlib.Core.Path.{_≡_};
 ghost use mathlib.Core.Bool.{true, false};
 ghost use Prim.Native.Nat.{_≤_};
+ghost use lib.IntN.{pos, _+ℤ_, _-ℤ_};
+ghost use lib.Signed.{_<ℤ_};
 ghost use Rattle.laws.specs.Bound.{Bounded};
 ghost use Rattle.refusal.specs.Refusals.{Sized};
 ghost use Rattle.cover.specs.declared.Kind.the-variants.{Circle, Quad};
 ghost use Rattle.cover.specs.Cover.{badPlaces};
-ghost use Rattle.cover.specs.Stamps.{Stamped, StampSays, FirstColumnSays, Among};
+ghost use Rattle.cover.specs.Stamps.{StampSays, FirstColumnSays, Among};
 use crate::Kind;
 use crate::reached::rows_of;
 use crate::reached::turned;
@@ -31,16 +33,24 @@ fn among(first: i32, last: i32, from: usize, n: usize) -> bool
     (low <= first) & (last - low <= 7) & (last < n as i32)
 }
 
+// A circle's rows or columns begin at `from`, and end before n.
+fn begins(c: i32, r: i32, from: usize, n: usize) -> bool
+    requires circle { ⌜ Bounded 8191 c × Bounded 8191 r ⌝ }
+    requires places { ⌜ (from ≤ 255) × (n ≤ 256) ⌝ }
+    ensures { λ b. ⌜ (b ≡ true → (c -ℤ r ≡ pos from) × ((c +ℤ r) <ℤ pos n)) ⌝ }
+{
+    let low = c - r;
+    (low <= from as i32) & (from as i32 <= low) & (c + r < n as i32)
+}
+
 // A circle of radius 1, 2 or 3 that lies in the picture. Its first column and row are those of the stamp.
 fn circle_stamp(cx: i32, cy: i32, r: i32, left: usize, top: usize, w: usize, h: usize) -> u64
     requires circle { ⌜ Bounded 8191 cx × Bounded 8191 cy × Bounded 8191 r ⌝ }
     requires window { ⌜ (left ≤ 255) × (top ≤ 255) × (w ≤ 256) × (h ≤ 256) ⌝ }
-    ensures { λ s. ⌜ ((s ≡ 0 → ⊥) → Stamped (Circle cx cy r) left top w h s) ⌝ }
+    ensures { λ s. ⌜ StampSays (Circle cx cy r) left top w h s ⌝ }
 {
-    if (1 <= r) & (r <= 3) & (cx - r <= left as i32) & (cy - r <= top as i32) {
-        if among(cx - r, cx + r, left, w) & among(cy - r, cy + r, top, h) {
-            return stamp::circle_stamp(r);
-        }
+    if (1 <= r) & (r <= 3) & begins(cx, r, left, w) & begins(cy, r, top, h) {
+        return stamp::circle_stamp(r);
     }
     0
 }
@@ -62,7 +72,7 @@ fn polygon_stamp(
 ) -> u64
     requires corners { ⌜ Bounded 8191 x0 × Bounded 8191 y0 × Bounded 8191 x1 × Bounded 8191 y1 × Bounded 8191 x2 × Bounded 8191 y2 × Bounded 8191 x3 × Bounded 8191 y3 ⌝ }
     requires window { ⌜ (left ≤ 255) × (top ≤ 255) × (w ≤ 256) × (h ≤ 256) ⌝ }
-    ensures { λ s. ⌜ ((s ≡ 0 → ⊥) → Stamped (Quad x0 y0 x1 y1 x2 y2 x3 y3) left top w h s) ⌝ }
+    ensures { λ s. ⌜ StampSays (Quad x0 y0 x1 y1 x2 y2 x3 y3) left top w h s ⌝ }
 {
     let xs = [x0, x1, x2, x3];
     let ys = [y0, y1, y2, y3];
@@ -85,11 +95,12 @@ fn polygon_stamp(
     0
 }
 
-fn kind_stamp(kind: Kind, left: usize, top: usize, w: usize, h: usize) -> u64
+// The covered pixels of eight rows of eight, from column left and row top on; 0 where they are not known.
+pub fn stamp_of(kind: Kind, left: usize, top: usize, w: usize, h: usize) -> u64
     requires sizes { ⌜ Sized w h ⌝ }
     requires places { ⌜ badPlaces kind ≡ false ⌝ }
     requires window { ⌜ (left ≤ 255) × (top ≤ 255) ⌝ }
-    ensures { λ r. ⌜ ((r ≡ 0 → ⊥) → Stamped kind left top w h r) ⌝ }
+    ensures { λ r. ⌜ StampSays kind left top w h r ⌝ }
 {
     match kind {
         Kind::Circle(cx, cy, r) => circle_stamp(cx, cy, r, left, top, w, h),
@@ -101,16 +112,4 @@ fn kind_stamp(kind: Kind, left: usize, top: usize, w: usize, h: usize) -> u64
             polygon_stamp(x0, y0, x1, y1, x2, y2, x3, y3, left, top, w, h)
         }
     }
-}
-
-// The covered pixels of eight rows of eight, from column left and row top on; 0 where they are not known.
-pub fn stamp_of(kind: Kind, left: usize, top: usize, w: usize, h: usize) -> u64
-    requires sizes { ⌜ Sized w h ⌝ }
-    requires places { ⌜ badPlaces kind ≡ false ⌝ }
-    ensures { λ r. ⌜ StampSays kind left top w h r ⌝ }
-{
-    if (255 < left) | (255 < top) {
-        return 0;
-    }
-    kind_stamp(kind, left, top, w, h)
 }
