@@ -152,9 +152,12 @@ four-eighths a b d e from n m =
     let g2 = greater-left b (greater d e) in
     let g3 = greater-right b (greater d e) in
     let g4 = greater-left d e in
-    let g5 = greater-right d e in
-    (one a (omega (arith, zord, m .low)) (omega (arith, zord, m .high)), one b (omega (arith, zord, m .low)) (omega (arith, zord, m .high)),
-      one d (omega (arith, zord, m .low)) (omega (arith, zord, m .high)), one e (omega (arith, zord, m .low)) (omega (arith, zord, m .high)))
+    let g5 = greater-right d e in (
+      one a (omega (arith, zord, m .low)) (omega (arith, zord, m .high)),
+      one b (omega (arith, zord, m .low)) (omega (arith, zord, m .high)),
+      one d (omega (arith, zord, m .low)) (omega (arith, zord, m .high)),
+      one e (omega (arith, zord, m .low)) (omega (arith, zord, m .high)),
+    )
   where
     one : (z : ℤ) → pos from ≤ℤ z → z ≤ℤ pos (from + 7) → Eighth (z -ℤ pos from)
     one z f g = record { low = omega (arith, zord, of- z (pos from)); high = omega (arith, zord, of- z (pos from)) }

@@ -1,15 +1,16 @@
 -- Laws: the loops over a stamp, and what they come to.
 use mathlib.Core.Path.{_≡_, refl, sym, _∙_, ap, ap₂, subst}
-use mathlib.Core.Bool.{Bool, true}
+use mathlib.Core.Bool.{Bool, true, _&&_}
 use mathlib.Core.List.{List}
 use Prim.Native.Nat.{ℕ, zero, suc, _+_, _-_, _*_, _/_, _%_, _^_, _≤_, _<_}
 use native.Mathlib.Nat.{pow-suc, mul-comm, mul-assoc, mul-le-mul-right, div-div-eq-div-mul}
 use native.Mathlib.Omega.{arith}
-use lib.Dec.{eqb, eqb→eq}
+use lib.Dec.{eqb, eqb→eq, leb, ltb}
+use borrow.Author.Tests.{ltb-true}
 use lib.Ieee.{Float}
 use lib.Pow.{shr-shr}
 use lib.Count.{trailingZeros, leadingZeros, leading-top}
-use Rattle.laws.specs.Bools.{true-is}
+use Rattle.laws.specs.Bools.{true-is, and-right}
 use Rattle.laws.specs.Ends.{Ends, ends, endsOf}
 use Rattle.laws.specs.EndsLaws.{Ended, ended}
 use Rattle.laws.specs.PixelSums.{addSpan}
@@ -24,6 +25,10 @@ use Rattle.stamp.specs.WindowLaws.{stamp-points, stamp-spans}
 use Rattle.cover.specs.declared.Kind.{Kind}
 use Rattle.cover.specs.Cover.{covered}
 use Rattle.cover.specs.Stamps.{Stamped}
+use Rattle.cover.specs.declared.reached.Rows.{Rows}
+use Rattle.cover.specs.ReachRows.{ReachRowsSays}
+use Rattle.refusal.specs.Refusals.{Sized}
+use Rattle.score.specs.ScoringLaws.{reached-rows, some-reached}
 use Rattle.score.specs.Scoring.{pixelAt, pointSums, spanSums}
 use Rattle.stamp.specs.RowLaws.{row-some, row-ends, row-none}
 use Rattle.score.specs.StampSums.{stampPixel, stampPoints, StampIn, stampRow, stampSpans, RowIn, RowsIn}
@@ -182,3 +187,9 @@ module _ (kind : Kind) (left top w h bits : ℕ) (g : Stamped kind left top w h 
   stamp-is-spans table =
       ap (λ (b : ℕ). stampSpans w table left top 8 b noSums) (g .is)
       ∙ stamp-spans (covered kind) left top w h (g .window) noSums plus minus (placeOf w table)
+
+-- ---- what a call knows where its stamp is tried
+pub near : (kind : Kind) (w h : ℕ) → Sized w h → (r : Rows) → ReachRowsSays kind w h r → r .top < r .bottom → (left : ℕ) → leb (r .bottom - r .top) 8 && ltb left w ≡ true → (left ≤ 255) × (r .top ≤ 255)
+near kind w h z r e l left t =
+    let g = reached-rows kind w h z (r .top) (r .bottom) (some-reached kind w h r e l) in
+    (omega (arith, ltb-true left w (and-right (leb (r .bottom - r .top) 8) (ltb left w) t), z .w-high), omega (arith, g .2, l))

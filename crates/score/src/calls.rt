@@ -68,6 +68,14 @@ pub fn span_score(
         if bottom <= top {
             return Scored::Done(grade::no_score(opacity, 0));
         }
+        let left = cover::stamps::first_column(kind, w);
+        if (bottom - top <= 8) & (left < w) {
+            let bits = cover::stamps::stamp_of(kind, left, top, w, h);
+            if bits != 0 {
+                let few = crate::spans::add_stamp(bits, left, top, table, w);
+                return done(grade::finalize(few, opacity));
+            }
+        }
         let sums = crate::spans::reached_sums(kind, top, bottom, w, h, table);
         return done(grade::finalize(sums, opacity));
     }
@@ -143,6 +151,14 @@ pub fn circle_point_score(
         if bottom <= top {
             return Scored::Done(grade::no_score(opacity, 0));
         }
+        let left = cover::stamps::first_column(kind, w);
+        if (bottom - top <= 8) & (left < w) {
+            let bits = cover::stamps::stamp_of(kind, left, top, w, h);
+            if bits != 0 {
+                let few = crate::points::push_stamp(bits, left, top, target, canvas, w);
+                return done(grade::finalize(few, opacity));
+            }
+        }
         let sums = crate::points::reached_sums(kind, top, bottom, w, h, target, canvas);
         return done(grade::finalize(sums, opacity));
     }
@@ -183,6 +199,14 @@ pub fn triangle_point_score(
         if bottom <= top {
             return Scored::Done(grade::no_score(opacity, 0));
         }
+        let left = cover::stamps::first_column(kind, w);
+        if (bottom - top <= 8) & (left < w) {
+            let bits = cover::stamps::stamp_of(kind, left, top, w, h);
+            if bits != 0 {
+                let few = crate::points::push_stamp(bits, left, top, target, canvas, w);
+                return done(grade::finalize(few, opacity));
+            }
+        }
         let sums = crate::points::reached_sums(kind, top, bottom, w, h, target, canvas);
         return done(grade::finalize(sums, opacity));
     }
@@ -211,6 +235,17 @@ pub fn collect_span_sums(kind: Kind, w: usize, h: usize, table: &[f64]) -> Colle
         let bottom = rows.bottom;
         if bottom <= top {
             return no_sums(0);
+        }
+        let left = cover::stamps::first_column(kind, w);
+        if (bottom - top <= 8) & (left < w) {
+            let bits = cover::stamps::stamp_of(kind, left, top, w, h);
+            if bits != 0 {
+                let few = crate::spans::add_stamp(bits, left, top, table, w);
+                return Collected {
+                    sums: few,
+                    refused: 0,
+                };
+            }
         }
         let gathered = crate::spans::reached_sums(kind, top, bottom, w, h, table);
         return Collected {
@@ -270,6 +305,17 @@ pub fn collect_circle_sums(
         if bottom <= top {
             return no_sums(0);
         }
+        let left = cover::stamps::first_column(kind, w);
+        if (bottom - top <= 8) & (left < w) {
+            let bits = cover::stamps::stamp_of(kind, left, top, w, h);
+            if bits != 0 {
+                let few = crate::points::push_stamp(bits, left, top, target, canvas, w);
+                return Collected {
+                    sums: few,
+                    refused: 0,
+                };
+            }
+        }
         let sums = crate::points::reached_sums(kind, top, bottom, w, h, target, canvas);
         return Collected {
             sums: sums,
@@ -301,6 +347,17 @@ pub fn collect_triangle_sums(
         let bottom = rows.bottom;
         if bottom <= top {
             return no_sums(0);
+        }
+        let left = cover::stamps::first_column(kind, w);
+        if (bottom - top <= 8) & (left < w) {
+            let bits = cover::stamps::stamp_of(kind, left, top, w, h);
+            if bits != 0 {
+                let few = crate::points::push_stamp(bits, left, top, target, canvas, w);
+                return Collected {
+                    sums: few,
+                    refused: 0,
+                };
+            }
         }
         let sums = crate::points::reached_sums(kind, top, bottom, w, h, target, canvas);
         return Collected {

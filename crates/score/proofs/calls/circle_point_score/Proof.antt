@@ -1,9 +1,13 @@
 -- `score::calls::circle_point_score` meets its contract: as for spans, of this kind, once each number that is read back from its bits is the number itself.
-use mir.Facts.{toZ-ofZ}
+use mathlib.Core.Path.{_≡_, sym, _∙_}
+use Prim.Native.Nat.{_≤_, _<_}
 use native.Mathlib.Omega.{arith}
 use lib.ListN.{length}
+use mir.Facts.{toZ-ofZ}
+use Rattle.refusal.specs.Refusals.{Sized}
 use Rattle.score.specs.ScoringLaws.{some-reached}
 use Rattle.score.specs.CallLaws.{picture-lengths, usual-rows, point-nothing, point-told}
+use Rattle.score.specs.StampSumLaws.{near, stamp-in, stamp-is-points}
 use borrow.Author.Needs.{needs}
 use Rattle.score.proofs.calls.circle_point_score.Statement.{statement}
 use Rattle.score.proofs.calls.circle_point_score.Tie as tie
@@ -15,9 +19,7 @@ usual-pictures-requires : tie.Need-usual-pictures-requires
 usual-pictures-requires c κs = search needs
 
 reach-rows-requires : tie.Need-reach-rows-requires
-reach-rows-requires c κs =
-    let a = c .before .before .before .before .before .before .args in
-    usual-rows _ _ _ (a .w) (a .h) (c .before .usual-pictures .ensures (c .if1 .taken) .0)
+reach-rows-requires c κs = let a = c .before .before .before .before .before .before .args in usual-rows _ _ _ (a .w) (a .h) (c .before .usual-pictures .ensures (c .if1 .taken) .0)
 
 no-score-requires : tie.Need-no-score-requires
 no-score-requires c κs = search needs
@@ -27,20 +29,53 @@ returns c =
     let r = c .before .before in
     let t = r .before in
     let n = t .before .before in
-    let a = n .before .before .before .before .args in
-    let z = n .before .before .before .before in
+    let a = t .before .before .before .before .before .before .args in
+    let z = t .before .before .before .before .before .before in
     simp (toZ-ofZ, z .fits .cx, z .fits .cy, z .fits .r) at (
     point-nothing _ (a .request) (n .asked .result) (a .levels .now) (a .w) (a .h) (n .asked .ensures) (a .target .now) (a .canvas .now) (t .before .usual-pictures .ensures (t .if1 .taken))
     (r .reach-rows .result) (r .reach-rows .ensures) (c .before .if2 .taken) (c .no-score .result) (c .no-score .ensures))
 
-reached-sums-requires : tie.Need-reached-sums-requires
-reached-sums-requires c κs =
-    let r = c .before in
-    let t = r .before in
-    let a = t .before .before .before .before .before .before .args in
-    let f = t .before .usual-pictures .ensures (t .if1 .taken) in
-    let z = usual-rows _ _ _ (a .w) (a .h) (f .0) in
-    (z .0, (z .1, (picture-lengths (a .w) (a .h) (length (a .target .now)) (length (a .canvas .now)) (f .1), some-reached _ (a .w) (a .h) (r .reach-rows .result) (r .reach-rows .ensures) (omega (arith, c .if2 .left)))))
+-- what is known where some row is reached
+module _ (c : tie.Else2) where
+  abbrev start : tie.Start
+  start = c .before .before .before .before .before .before .before .before
+
+  sizes : let a = start .args in Sized (a .w) (a .h)
+  sizes = let a = start .args in usual-rows _ _ _ (a .w) (a .h) (c .before .before .before .usual-pictures .ensures (c .before .before .if1 .taken) .0) .0
+
+  some : c .before .reach-rows .result .top < c .before .reach-rows .result .bottom
+  some = omega (arith, c .if2 .left)
+
+first-column-requires : tie.Need-first-column-requires
+first-column-requires c κs = let a = start c .args in (sizes c .w-high, usual-rows _ _ _ (a .w) (a .h) ((c .before .before .before .usual-pictures .ensures (c .before .before .if1 .taken)) .0) .1)
+
+sub-if3 : tie.Need-sub-if3
+sub-if3 c = omega (arith, some (c .before))
+
+close : (c : tie.Then3) → (c .before .first-column .result ≤ 255) × (c .before .before .before .reach-rows .result .top ≤ 255)
+close c =
+    let e = c .before .before in
+    let a = start e .args in
+    let r = e .before .reach-rows in
+    near _ (a .w) (a .h) (sizes e) (r .result) (r .ensures) (some e) (c .before .first-column .result) (c .if3 .taken)
+
+stamp-of-requires : tie.Need-stamp-of-requires
+stamp-of-requires c κs =
+    let e = c .before .before in
+    let a = start e .args in
+    (sizes e, (usual-rows _ _ _ (a .w) (a .h) ((e .before .before .before .usual-pictures .ensures (e .before .before .if1 .taken)) .0) .1, close c))
+
+push-stamp-requires : tie.Need-push-stamp-requires
+push-stamp-requires c κs =
+    let s = c .before in
+    let u = s .before in
+    let e = u .before .before in
+    let a = start e .args in
+    let f = (e .before .before .before .usual-pictures .ensures (e .before .before .if1 .taken)) in
+    let g = s .stamp-of .ensures (λ q. omega (arith, c .if4 .taken, q)) in
+    let k = close u in
+    let l = (picture-lengths (a .w) (a .h) (length (a .target .now)) (length (a .canvas .now)) (f .1)) in
+    ((omega (arith, k .0), omega (arith, k .1), sizes e .w-high), (l .1 ∙ sym (l .0), stamp-in _ _ _ (a .w) (a .h) _ g (length (a .target .now)) (l .0)))
 
 finalize-requires : tie.Need-finalize-requires
 finalize-requires c κs = search needs
@@ -50,21 +85,50 @@ done-requires c κs = search needs
 
 returns-2 : tie.Need-returns-2
 returns-2 c =
-    let e = c .before in
-    let s = e .before in
-    let t = s .before .before .before in
+    let m = c .before in
+    let d = m .before in
+    let p = d .before in
+    let s = p .before in
+    let e = s .before .before .before in
+    let t = e .before .before in
     let n = t .before .before in
-    let a = n .before .before .before .before .args in
-    let z = n .before .before .before .before in
+    let a = t .before .before .before .before .before .before .args in
+    let z = t .before .before .before .before .before .before in
     simp (toZ-ofZ, z .fits .cx, z .fits .cy, z .fits .r) at (
     point-told _ (a .request) (n .asked .result) (a .levels .now) (a .w) (a .h) (n .asked .ensures) (a .target .now) (a .canvas .now) (t .before .usual-pictures .ensures (t .if1 .taken))
-    (s .reached-sums .result) (e .finalize .result) (c .done .result) (s .reached-sums .ensures) (e .finalize .ensures) (c .done .ensures))
+    (d .push-stamp .result) (m .finalize .result) (c .done .result) (d .push-stamp .ensures ∙ stamp-is-points _ _ _ (a .w) (a .h) _ (s .stamp-of .ensures (λ q. omega (arith, p .if4 .taken, q))) (a .target .now) (a .canvas .now)) (m .finalize .ensures) (c .done .ensures))
+
+reached-sums-requires : tie.Need-reached-sums-requires
+reached-sums-requires c κs =
+    let e = c .before .before in
+    let a = start e .args in
+    let f = (e .before .before .before .usual-pictures .ensures (e .before .before .if1 .taken)) in
+    let r = e .before .reach-rows in
+    (sizes e, (usual-rows _ _ _ (a .w) (a .h) (f .0) .1, (picture-lengths (a .w) (a .h) (length (a .target .now)) (length (a .canvas .now)) (f .1), some-reached _ (a .w) (a .h) (r .result) (r .ensures) (some e))))
+
+finalize-requires-2 : tie.Need-finalize-requires-2
+finalize-requires-2 c κs = search needs
+
+done-requires-2 : tie.Need-done-requires-2
+done-requires-2 c κs = search needs
+
+returns-3 : tie.Need-returns-3
+returns-3 c =
+    let m = c .before in
+    let d = m .before in
+    let t = d .before .before .before .before .before in
+    let n = t .before .before in
+    let a = t .before .before .before .before .before .before .args in
+    let z = t .before .before .before .before .before .before in
+    simp (toZ-ofZ, z .fits .cx, z .fits .cy, z .fits .r) at (
+    point-told _ (a .request) (n .asked .result) (a .levels .now) (a .w) (a .h) (n .asked .ensures) (a .target .now) (a .canvas .now) (t .before .usual-pictures .ensures (t .if1 .taken))
+    (d .reached-sums .result) (m .finalize2 .result) (c .done2 .result) (d .reached-sums .ensures) (m .finalize2 .ensures) (c .done2 .ensures))
 
 tested-point-score-requires : tie.Need-tested-point-score-requires
 tested-point-score-requires c κs = search needs
 
-returns-3 : tie.Need-returns-3
-returns-3 c = let n = c .before .before .before in let z = n .before .before .before .before in simp (toZ-ofZ, z .fits .cx, z .fits .cy, z .fits .r) at (c .tested-point-score .ensures)
+returns-4 : tie.Need-returns-4
+returns-4 c = let n = c .before .before .before in let z = n .before .before .before .before in simp (toZ-ofZ, z .fits .cx, z .fits .cy, z .fits .r) at (c .tested-point-score .ensures)
 
 pub circle-point-score-spec : {M : Type 1} → statement M
 circle-point-score-spec =
@@ -75,9 +139,16 @@ circle-point-score-spec =
     reach-rows-requires
     no-score-requires
     returns
-    reached-sums-requires
+    first-column-requires
+    sub-if3
+    stamp-of-requires
+    push-stamp-requires
     finalize-requires
     done-requires
     returns-2
+    reached-sums-requires
+    finalize-requires-2
+    done-requires-2
+    returns-3
     tested-point-score-requires
-    returns-3)
+    returns-4)
