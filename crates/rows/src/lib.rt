@@ -1,12 +1,13 @@
 // A row's part of the table: its running sums, place by place.
 ghost use mathlib.Core.Path.{_≡_};
-ghost use mathlib.Core.Bool.{true, cond};
+ghost use mathlib.Core.Bool.{true, false, cond};
 ghost use mathlib.Core.List.{_++_};
 ghost use Prim.Native.Nat.{_+_, _*_, _<_, _≤_, _^_};
-ghost use lib.ListN.{length, take};
+ghost use lib.ListN.{length, take, getD};
 ghost use lib.Seq.{sets};
+ghost use lib.Ieee.{nan};
 ghost use lib.Dec.{T};
-ghost use Rattle.float.specs.Within.{allNumbers};
+ghost use Rattle.float.specs.Within.{nought, allNumbers};
 ghost use Rattle.sums.specs.Sums.{plus};
 ghost use Rattle.rows.specs.Places.{RowSizes, pixelAt, all3, targetSix, canvasNine, RebuildRowSays};
 use sums::ShapeSums;
@@ -32,6 +33,47 @@ pub fn rebuild_row(
         let a = (x + 1) * 15;
         put(&mut row[a..a + 15], s, whole);
     }
+}
+
+// The nine that read the canvas, of rows without a NaN, in a loop of its own: there the compiler leaves the other six sums out.
+pub fn update_row(row: &mut [f64], target: &[f32], canvas: &[f32], w: usize)
+    requires { ⌜ RowSizes w (now target) (now canvas) (now row) ⌝ }
+    requires { ⌜ T (allNumbers (now target)) × T (allNumbers (now canvas)) ⌝ }
+    ensures { λ _. ⌜ RebuildRowSays false w (now (target .entry)) (now (canvas .entry)) (now (row .entry)) (now (row .exit)) ⌝ }
+{
+    let mut s = ShapeSums::new();
+    put(&mut row[0..15], s, false);
+    let mut seen = 0.0;
+    for x in 0..w {
+        s = step_numbers(s, target, canvas, x);
+        let a = (x + 1) * 15;
+        seen = read_before(seen, row, a, w);
+        put(&mut row[a..a + 15], s, false);
+    }
+    keep_reads(row, seen);
+}
+
+// In a wide row a number before and the last of those that are written at a are read before. Such a table is larger than the near
+// caches, and lines that are read are fetched ahead of their turn; lines that are only written are not.
+fn read_before(seen: f64, row: &[f64], a: usize, w: usize) -> f64
+    requires { ⌜ a + 15 ≤ length (now row) ⌝ }
+{
+    if w <= 64 {
+        return seen;
+    }
+    seen + (row[a + 5] + row[a + 14])
+}
+
+// A number that is 0 is written once more where what was read is a NaN. Were nothing done with what was read, the compiler would leave
+// out the reads.
+fn keep_reads(row: &mut [f64], seen: f64)
+    requires { ⌜ (6 < length (now row)) × (getD (now row) 6 nan ≡ nought) ⌝ }
+    ensures { λ _. ⌜ now (row .exit) ≡ now (row .entry) ⌝ }
+{
+    if seen == seen {
+        return;
+    }
+    row[6] = 0.0;
 }
 
 // Pixel x more.

@@ -3,21 +3,21 @@ use mathlib.Core.Path.{_≡_, sym, ap, _∙_, subst}
 use mathlib.Core.Bool.{Bool, true, false, not, _&&_}
 use mathlib.Core.List.{List}
 use Prim.Native.Nat.{ℕ, _+_, _-_, _*_, _≤_, _<_}
-use native.Mathlib.Nat.{mul-le-mul-right, add-mul}
+use native.Mathlib.Nat.{le-trans, le-of-eq, mul-le-mul-right, add-mul}
 use native.Mathlib.Omega.{arith}
 use lib.Dec.{T, leb, leb→le, nleb→lt}
 use lib.ListN.{length, take, drop, getD}
 use lib.Ieee.{Float, nan, binary32, eq, sub}
 use borrow.Rule.Slice.PartMut.{putMid}
-use Rattle.laws.specs.Rows.{cut, putRow}
+use Rattle.laws.specs.Rows.{cut, putRow, putRows}
 use Rattle.laws.specs.Bools.{true-is, and-left, and-right}
 use Rattle.laws.specs.EveryLaws.{every-of}
-use Rattle.laws.specs.RowLaws.{part-cut, length-part, length-cut, getD-cut, put-row}
+use Rattle.laws.specs.RowLaws.{part-cut, length-part, length-cut, getD-cut, put-row, putRows-more, row-in}
 use Rattle.float.specs.Within.{number, allNumbers}
 use Rattle.float.specs.Numbers.{itself-number}
 use Rattle.float.specs.MarksLaws.{parts-numbers}
 use Rattle.rows.specs.Places.{RowSizes, rowOf}
-use Rattle.table.specs.Fills.{rowAt, NumbersBetween}
+use Rattle.table.specs.Fills.{Sizes, rowAt, NumbersBetween}
 
 module _ (w y : ℕ) (target canvas table tr cr : List Float) (a : tr ≡ cut (w * 3) y target) (b : cr ≡ cut (w * 3) y canvas) where
   -- the table's part as it is lent
@@ -55,6 +55,28 @@ numbers-more target canvas from k ok d e inv h i l m = go (leb k i) (leb→le k 
     go : (b : Bool) → (T b → k ≤ i) → (T (not b) → i < k) → T (number (getD target i nan)) × T (number (getD canvas i nan))
     go true f g = let p = f tt in let z : k ≡ i = omega arith in subst (λ (j : ℕ). T (number (getD target j nan)) × T (number (getD canvas j nan))) z here
     go false f g = inv (and-left ok (eq d d) h) i l (g tt)
+
+-- rows lo to hi lie within both pictures
+pub rows-within : (w h lo hi : ℕ) (target canvas table : List Float) → Sizes w h target canvas table → lo ≤ hi → hi ≤ h
+    → (w ≤ 256) × (lo ≤ hi) × (hi ≤ 256) × (hi * (w * 3) ≤ length target) × (hi * (w * 3) ≤ length canvas)
+rows-within w h lo hi target canvas table s p q =
+    let n = mul-le-mul-right (w * 3) q in
+    (s .narrow, p, le-trans q (s .low), le-trans n (le-of-eq (sym (s .targets))), le-trans n (le-of-eq (sym (s .canvases))))
+
+module _ (whole : Bool) (w h : ℕ) (target canvas : List Float) (lo y : ℕ) (old t : List Float) where
+  -- row y lies within each
+  pub row-within : Sizes w h target canvas old → length t ≡ h * ((w + 1) * 15) → y < h
+      → (w ≤ 256) × (y * (w * 3) + w * 3 ≤ length target) × (y * (w * 3) + w * 3 ≤ length canvas) × (y * ((w + 1) * 15) + (w + 1) * 15 ≤ length t)
+  row-within s e g = (s .narrow, row-in (w * 3) y h target (s .targets) g, row-in (w * 3) y h canvas (s .canvases) g, row-in ((w + 1) * 15) y h t e g)
+
+  -- rows lo to y were written, and now row y
+  pub row-more : lo ≤ y → t ≡ putRows ((w + 1) * 15) (rowAt whole w target canvas) lo y old → (new : List Float)
+      → new ≡ putRow ((w + 1) * 15) y (rowAt whole w target canvas y (cut ((w + 1) * 15) y t)) t
+      → new ≡ putRows ((w + 1) * 15) (rowAt whole w target canvas) lo (y + 1) old
+  row-more l e new f =
+      f
+      ∙ ap (λ m. putRow ((w + 1) * 15) y (rowAt whole w target canvas y (cut ((w + 1) * 15) y m)) m) e
+      ∙ putRows-more ((w + 1) * 15) (rowAt whole w target canvas) lo y old l
 
 -- row y of rows lo to hi
 module _ (n y lo hi h : ℕ) (target canvas : List Float) (a : lo ≤ y) (b : y < hi) (c : hi ≤ h) (t : length target ≡ h * n) (k : length canvas ≡ h * n) (p : NumbersBetween (lo * n) (hi * n) target canvas) where

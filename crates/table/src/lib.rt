@@ -1,6 +1,6 @@
 // The table of prefix sums: for each row of a picture w + 1 places of fifteen sums, and what reads them.
 ghost use mathlib.Core.Path.{_≡_};
-ghost use mathlib.Core.Bool.{true, _||_};
+ghost use mathlib.Core.Bool.{true, false, _||_};
 ghost use mathlib.Core.List.{[], _∷_};
 ghost use Prim.Native.Nat.{ℕ, _+_, _-_, _*_, _≤_, _<_, _^_};
 ghost use lib.Dec.{leb, ltb};
@@ -187,6 +187,7 @@ fn some_end(y: usize, hi: usize, w: usize) -> usize
     y + n
 }
 
+// An update goes a quicker way of its own as far as it can.
 fn rebuild_some(
     target: &[f32],
     canvas: &[f32],
@@ -200,10 +201,61 @@ fn rebuild_some(
     requires { ⌜ Sizes w h (now target) (now canvas) (now table) × (lo ≤ hi) × (hi ≤ h) ⌝ }
     ensures { λ _. ⌜ now (table .exit) ≡ putRows ((w + 1) * 15) (rowAt whole w (now (target .entry)) (now (canvas .entry))) lo hi (now (table .entry)) ⌝ }
 {
-    let numbers = all_numbers(target, canvas, lo * (w * 3), hi * (w * 3));
+    let y = update_some(target, canvas, w, h, table, lo, hi, whole);
+    rebuild_rest(target, canvas, w, h, table, y, hi, whole);
+}
+
+// Of an update the rows from lo on, if they have no NaN; the answer is the first row that is left. Of a build all rows are left.
+fn update_some(
+    target: &[f32],
+    canvas: &[f32],
+    w: usize,
+    h: usize,
+    table: &mut [f64],
+    lo: usize,
+    hi: usize,
+    whole: bool,
+) -> usize
+    requires { ⌜ Sizes w h (now target) (now canvas) (now table) × (lo ≤ hi) × (hi ≤ h) ⌝ }
+    ensures { λ r. ⌜ (lo ≤ r) × (r ≤ hi) × (now (table .exit) ≡ putRows ((w + 1) * 15) (rowAt whole w (now (target .entry)) (now (canvas .entry))) lo r (now (table .entry))) ⌝ }
+{
+    if whole {
+        return lo;
+    }
+    if !rows_numbers(target, canvas, w, lo, hi) {
+        return lo;
+    }
+    for y in lo..hi {
+        update_at(target, canvas, w, table, y);
+    }
+    hi
+}
+
+fn rebuild_rest(
+    target: &[f32],
+    canvas: &[f32],
+    w: usize,
+    h: usize,
+    table: &mut [f64],
+    lo: usize,
+    hi: usize,
+    whole: bool,
+)
+    requires { ⌜ Sizes w h (now target) (now canvas) (now table) × (lo ≤ hi) × (hi ≤ h) ⌝ }
+    ensures { λ _. ⌜ now (table .exit) ≡ putRows ((w + 1) * 15) (rowAt whole w (now (target .entry)) (now (canvas .entry))) lo hi (now (table .entry)) ⌝ }
+{
+    let numbers = rows_numbers(target, canvas, w, lo, hi);
     for y in lo..hi {
         rebuild_at(target, canvas, w, table, y, whole, numbers);
     }
+}
+
+// Rows lo to hi of both pictures have no NaN.
+fn rows_numbers(target: &[f32], canvas: &[f32], w: usize, lo: usize, hi: usize) -> bool
+    requires { ⌜ (w ≤ 256) × (lo ≤ hi) × (hi ≤ 256) × (hi * (w * 3) ≤ length (now target)) × (hi * (w * 3) ≤ length (now canvas)) ⌝ }
+    ensures { λ r. ⌜ (r ≡ true → NumbersBetween (lo * (w * 3)) (hi * (w * 3)) (now (target .entry)) (now (canvas .entry))) ⌝ }
+{
+    all_numbers(target, canvas, lo * (w * 3), hi * (w * 3))
 }
 
 // Numbers from..to of both pictures have no NaN: then neither has a difference, one test for two. Two infinities of one sign make it
@@ -243,6 +295,22 @@ fn rebuild_at(
         w,
         whole,
         numbers,
+    );
+}
+
+// The same for the nine, of a row without a NaN.
+fn update_at(target: &[f32], canvas: &[f32], w: usize, table: &mut [f64], y: usize)
+    requires { ⌜ (w ≤ 256) × (y * (w * 3) + w * 3 ≤ length (now target)) × (y * (w * 3) + w * 3 ≤ length (now canvas)) × (y * ((w + 1) * 15) + (w + 1) * 15 ≤ length (now table)) ⌝ }
+    requires { ⌜ RowNumbers true (w * 3) y (now target) (now canvas) ⌝ }
+    ensures { λ _. ⌜ now (table .exit) ≡ putRow ((w + 1) * 15) y (rowAt false w (now (target .entry)) (now (canvas .entry)) y (cut ((w + 1) * 15) y (now (table .entry)))) (now (table .entry)) ⌝ }
+{
+    let n = (w + 1) * 15;
+    let a = y * n;
+    rows::update_row(
+        &mut table[a..a + n],
+        row_of(target, y, w * 3),
+        row_of(canvas, y, w * 3),
+        w,
     );
 }
 
