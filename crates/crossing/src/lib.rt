@@ -20,18 +20,21 @@ fn is_sized(n: usize) -> bool
     (n == 3) | (n == 6) | (n == 8)
 }
 
-// The kind of n coordinates, which come first.
+// The kind of n coordinates, which come first. One way out: with a `return` in each branch the compiler merges the stores of the
+// three kinds, and the shape stays in memory.
 fn kind_sized(n: usize, zs: &[i32]) -> Kind
     requires { ⌜ wanted n ≤ length (now zs) ⌝ }
     ensures { λ r. ⌜ r ≡ kindSized n (now (zs .entry)) ⌝ }
 {
     if n == 3 {
-        return Kind::Circle(zs[0], zs[1], zs[2]);
+        Kind::Circle(zs[0], zs[1], zs[2])
+    } else {
+        if n == 6 {
+            Kind::Triangle(zs[0], zs[1], zs[2], zs[3], zs[4], zs[5])
+        } else {
+            Kind::Quad(zs[0], zs[1], zs[2], zs[3], zs[4], zs[5], zs[6], zs[7])
+        }
     }
-    if n == 6 {
-        return Kind::Triangle(zs[0], zs[1], zs[2], zs[3], zs[4], zs[5]);
-    }
-    Kind::Quad(zs[0], zs[1], zs[2], zs[3], zs[4], zs[5], zs[6], zs[7])
 }
 
 // The number of coordinates says the kind.

@@ -39,6 +39,10 @@ or-rest : (a c : Bool) → a || c ≡ true → c ≡ false → a ≡ true
 or-rest true c h e = refl
 or-rest false c h e = no-both h e
 
+or-other : (a c : Bool) → a || c ≡ true → a ≡ false → c ≡ true
+or-other true c h e = no-both refl e
+or-other false c h e = h
+
 pub between : (a r c : ℕ) → leb a r && ltb r c ≡ true → (a ≤ r) × (r < c)
 between a r c h = (leb-true a r (and-left (leb a r) (ltb r c) h), ltb-true r c (and-right (leb a r) (ltb r c) h))
 
@@ -285,6 +289,19 @@ module _ (b : ℕ) (B : b < 0x1_0000_0000_0000_0000) where
       go (no l) =
           let k = ltb-true (body b) 0x3670_0000_0000_0000 (or-rest (ltb (body b) 0x3670_0000_0000_0000) (leb 0x3810_0000_0000_0000 (body b)) o (lt-leb 0x3810_0000_0000_0000 (body b) (omega arith))) in
           at-zero (omega arith) ∙ sym (add-zero (sgn b)) ∙ ap (λ (t : Bool). sgn b + cond t 0 0x7f80_0000) (sym (lt-ltb (body b) 0x3810_0000_0000_0000 (omega arith)))
+
+  -- by the exponent alone, where it is neither f32's nor the last one: 0 below, infinity above
+  pub at-beyond : ltb (expo b) 871 || ltb 1150 (expo b) ≡ true → expo b < 2047 → answer b ≡ sgn b + expo b / 1024 * 0x7f80_0000
+  at-beyond o m = go (decLe 871 (expo b))
+    where
+      go : Dec (871 ≤ expo b) → answer b ≡ sgn b + expo b / 1024 * 0x7f80_0000
+      go (yes l) =
+          let k = ltb-true 1150 (expo b) (or-other (ltb (expo b) 871) (ltb 1150 (expo b)) o (le-ltb (expo b) 871 l)) in
+          let one : 0x7f80_0000 ≡ expo b / 1024 * 0x7f80_0000 = omega arith in
+          at-over (omega arith) (omega arith) (shortened-over (body b - 0x3800_0000_0000_0000) (omega arith)) ∙ ap (λ (z : ℕ). sgn b + z) one
+      go (no l) =
+          let nothing : 0 ≡ expo b / 1024 * 0x7f80_0000 = omega arith in
+          at-zero (omega arith) ∙ sym (add-zero (sgn b)) ∙ ap (λ (z : ℕ). sgn b + z) nothing
 
 -- ---- a positive number, by its own pattern
 pub at-positive : (x : Float) → T (fits binary64 x) → toBits binary64 x < 0x1_0000_0000_0000_0000

@@ -13,8 +13,28 @@ ghost use Rattle.float.specs.Patterns.{Bits32Says, Bits64Says, OfBits32S
 
 // The pattern of an f32 from that of an f64, rounded to the nearest, ties to even. A NaN's gives 7FC00000.
 // Divisions by constants, not shifts: the compiler makes shifts of them, and the prover's arithmetic reads them.
-// Usual numbers pass one test: from 2^-126, f32's normal range, up to 2^128 - 2^103, where infinity begins.
+// By the exponent: f32's normal range but its last power of two; then what is 0 or infinity, by no choice of its own. The few that are
+// left go the long way.
 pub fn narrow_bits(b: u64) -> u32
+    ensures { λ r. ⌜ NarrowBitsSays b r ⌝ }
+{
+    let e = b / 0x10_0000_0000_0000 % 2048;
+    if (897 <= e) & (e < 1150) {
+        let sign = (b / 0x8000_0000_0000_0000) * 0x8000_0000;
+        return (sign + shorten(b % 0x8000_0000_0000_0000)) as u32;
+    }
+    if (e < 871) | (1150 < e) {
+        if e < 2047 {
+            let sign = (b / 0x8000_0000_0000_0000) * 0x8000_0000;
+            return (sign + e / 1024 * 0x7f80_0000) as u32;
+        }
+    }
+    any_bits(b)
+}
+
+// The same, for `narrow`, which is written out in the loops of scores.
+// Usual numbers pass one test: from 2^-126, f32's normal range, up to 2^128 - 2^103, where infinity begins.
+fn any_bits(b: u64) -> u32
     ensures { λ r. ⌜ NarrowBitsSays b r ⌝ }
 {
     let sign = (b / 0x8000_0000_0000_0000) * 0x8000_0000;
@@ -69,7 +89,7 @@ pub fn narrow(x: f64) -> f32
     if x != x {
         return 0.0 / 0.0;
     }
-    f32::from_bits(narrow_bits(f64::to_bits(x)))
+    f32::from_bits(any_bits(f64::to_bits(x)))
 }
 
 // x as an f64, also where it is a NaN.

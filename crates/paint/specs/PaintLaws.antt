@@ -8,11 +8,12 @@ use native.Mathlib.Omega.{arith}
 use native.Mathlib.Decide.{ℕ-discrete}
 use lib.Dec.{T}
 use lib.ListN.{length}
-use lib.IntN.{ℤ}
-use lib.Signed.{_<ℤ_}
+use lib.IntN.{ℤ, pos}
+use lib.Signed.{_<ℤ_, _≤ℤ_, ltZ, leZ}
 use lib.Ieee.{Float}
 use borrow.Author.Tests.{not-false}
 use Rattle.laws.specs.Parts.{zord}
+use Rattle.laws.specs.Fit.{lt-true, le-true}
 use Rattle.laws.specs.Bools.{or-left, or-right, true-is, true-or-false}
 use Rattle.float.specs.Within.{within}
 use Rattle.refusal.specs.Refusals.{Test, Sized, lowest, sizeIf, lengthIf, placeIf, opacityIf, colourIf, badSize}
@@ -28,7 +29,7 @@ use Rattle.cover.specs.CoverLaws.{in-reach}
 use Rattle.picture.specs.Painting.{BlendSays}
 use Rattle.picture.specs.PaintingLaws.{length-painted, painted-nothing}
 use Rattle.picture.specs.Pixels.{badColour}
-use Rattle.table.specs.Table.{badLengths, Updated, updateRefusal, UpdateCanvasRowsSays}
+use Rattle.table.specs.Table.{badLengths, redone, Updated, updateRefusal, UpdateCanvasRowsSays}
 use Rattle.table.specs.TableLaws.{updated-only}
 use Rattle.paint.specs.Paint.{paintRefusal, lengthsRefusal, Painted, PaintSays}
 
@@ -145,6 +146,43 @@ painted-empty kind opacity red green blue w h canvas ends size e o =
     bare : (x y : ℕ) → y < h → (covered kind x y ≡ true) ⊎ (covered kind x y ≡ false) → covered kind x y ≡ false
     bare x y l (inl t) = let b = in-reach kind x y h l t in absurd (omega (arith, zord, gone, b .0, b .1))
     bare x y l (inr n) = n
+
+-- ---- an update whose last row, of the picture, is before its first one redoes no row
+updated-nothing : (w h : ℕ) (target canvas table : List Float) (ymin ymax : ℤ) → pos 0 ≤ℤ ymax → ymax <ℤ ymin → Updated w h target canvas ymin ymax table table
+unfolding redone
+updated-nothing w h target canvas table ymin ymax a b = record {
+  size = refl;
+  targets = λ s ch y x c l m. refl;
+  canvases = λ s ch y x c l m. rw (none y);
+}
+  where
+    not-last : (y : ℕ) → ymin ≤ℤ pos y → (leZ (pos y) ymax ≡ true) ⊎ (leZ (pos y) ymax ≡ false) → leZ (pos y) ymax ≡ false
+    not-last y k (inl t) = absurd (omega (arith, zord, a, b, k, le-true (pos y) ymax t))
+    not-last y k (inr f) = f
+
+    not-above : (ltZ ymax (pos 0) ≡ true) ⊎ (ltZ ymax (pos 0) ≡ false) → ltZ ymax (pos 0) ≡ false
+    not-above (inl t) = absurd (omega (arith, zord, a, lt-true ymax (pos 0) t))
+    not-above (inr f) = f
+
+    by : (y : ℕ) → (leZ ymin (pos y) ≡ true) ⊎ (leZ ymin (pos y) ≡ false) → redone ymin ymax y ≡ false
+    by y (inl t) = rw (
+      t,
+      not-above (true-or-false (ltZ ymax (pos 0))),
+      not-last y (le-true ymin (pos y) t) (true-or-false (leZ (pos y) ymax)),
+    )
+    by y (inr f) = rw f
+
+    none : (y : ℕ) → redone ymin ymax y ≡ false
+    none y = by y (true-or-false (leZ ymin (pos y)))
+
+-- a call for a shape below the picture
+pub nothing-done : (kind : Kind) (opacity red green blue : Float) (w h : ℕ) (target canvas table : List Float) (ends : Reach)
+    → length canvas ≡ h * w * 3 → RowReachSays kind h ends → ends .last <ℤ ends .first → pos 0 ≤ℤ ends .last
+    → Painted kind opacity red green blue w h target canvas table canvas table
+nothing-done kind opacity red green blue w h target canvas table ends size e o n = record {
+  picture = painted-empty kind opacity red green blue w h canvas ends size e o;
+  sums = subst (λ (r : Reach). Updated w h target canvas (r .first) (r .last) table table) e (updated-nothing w h target canvas table (ends .first) (ends .last) n o);
+}
 
 -- ---- the picture keeps its length, so the update is not refused
 pub both-done : (kind : Kind) (opacity red green blue : Float) (w h : ℕ) (target canvas table newCanvas newTable : List Float) (ymin ymax : ℤ) (k : ℕ)

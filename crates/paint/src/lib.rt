@@ -1,6 +1,6 @@
 // The paint call: a shape is blended into the picture, then the table is updated over the shape's row reach.
 ghost use mathlib.Core.Path.{_≡_};
-ghost use mathlib.Core.Bool.{false};
+ghost use mathlib.Core.Bool.{false, true};
 ghost use Prim.Native.Nat.{_*_};
 ghost use lib.ListN.{length};
 ghost use Rattle.refusal.specs.Refusals.{Sized};
@@ -10,8 +10,70 @@ ghost use Rattle.paint.specs.Paint.{lengthsRefusal, paintRefusal, Painte
 use cover::Kind;
 use cover::Reach;
 
-// Refusals: 1 size, 2 a length, 4 place, 5 opacity, 6 colour; then no number of `canvas` or `table` has changed. 0 is done.
+// Refusals: 1 size, 2 a length, 4 place, 5 opacity, 6 colour; then no number of `canvas` or `table` has changed. 0 is done. A usual
+// call is tested in one go, and where the shape reaches no row it does nothing else.
 pub fn paint(
+    kind: Kind,
+    opacity: f32,
+    red: f32,
+    green: f32,
+    blue: f32,
+    w: usize,
+    h: usize,
+    target: &[f32],
+    canvas: &mut [f32],
+    table: &mut [f64],
+) -> u8
+    ensures { λ r. ⌜ PaintSays kind opacity red green blue w h (now (target .entry)) (now (canvas .entry)) (now (table .entry)) r (now (canvas .exit)) (now (table .exit)) ⌝ }
+{
+    if usual(
+        kind,
+        opacity,
+        red,
+        green,
+        blue,
+        w,
+        h,
+        target.len(),
+        canvas.len(),
+        table.len(),
+    ) {
+        let reach = cover::row_reach(kind, h);
+        let first = reach.first;
+        let last = reach.last;
+        // an end above the picture redoes every row
+        if (last < first) & (0 <= last) {
+            return 0;
+        }
+        paint_both(kind, opacity, red, green, blue, w, h, target, canvas, table);
+        return 0;
+    }
+    tested_paint(kind, opacity, red, green, blue, w, h, target, canvas, table)
+}
+
+// Every test passes, in one go from the places on. Which one fails is left to the tests in order.
+fn usual(
+    kind: Kind,
+    opacity: f32,
+    red: f32,
+    green: f32,
+    blue: f32,
+    w: usize,
+    h: usize,
+    target: usize,
+    canvas: usize,
+    table: usize,
+) -> bool
+    ensures { λ r. ⌜ (r ≡ true → paintRefusal kind opacity red green blue w h target canvas table ≡ 0) ⌝ }
+{
+    if lengths_refusal(w, h, target, canvas, table) != 0 {
+        return false;
+    }
+    float::within(opacity) & !picture::bad_colour(red, green, blue) & !cover::bad_places(kind)
+}
+
+// The same with the tests in order.
+fn tested_paint(
     kind: Kind,
     opacity: f32,
     red: f32,

@@ -39,6 +39,7 @@ use Rattle.picture.specs.declared.Mean.{Mean}
 use Rattle.picture.specs.declared.Mean.the-variants as mean
 use Rattle.picture.specs.declared.Total.{Total}
 use Rattle.picture.specs.declared.Total.the-variants as total
+use Rattle.picture.specs.Strokes.{pixelPut}
 use Rattle.picture.specs.Pixels.{badColour, BadColourSays, filled, fillRefusal, FillSays, FilledCanvasSays, channelSum, sumsTo, channelMean, meanOf, meanRefusal, meanAnswer, MeanRgbSays, squaredDifference, totalOf, totalTo, totalRefusal, totalAnswer, SseTotalSays, TotalAnySays}
 
 -- ---- each promise has one answer
@@ -98,6 +99,11 @@ colour-within red green blue e = by
     by (suc (suc ch)) = and-r (within red && within green) (within blue) three
 
 -- ---- fill: pixel i is written
+
+-- a colour under other names
+abbrev pub Like : Float → Float → Float → Float → Float → Float → Type 0
+Like red green blue r g b = (r ≡ red) × (g ≡ green) × (b ≡ blue)
+
 module _ (w h : ℕ) (red green blue : Float) where
   pub length-filled : length (filled w h red green blue) ≡ h * w * 3
   length-filled = length-list w h (plain red green blue)
@@ -107,7 +113,7 @@ module _ (w h : ℕ) (red green blue : Float) where
       list-number w h (plain red green blue) (i * 3 + ch) nan (omega arith)
       ∙ ap (channelOf red green blue) (index-mod 3 i ch c)
 
-  pub fill-more : (l : List Float) (i : ℕ) → length l ≡ h * w * 3 → i < h * w → take (i * 3) l ≡ take (i * 3) (filled w h red green blue)
+  fill-more : (l : List Float) (i : ℕ) → length l ≡ h * w * 3 → i < h * w → take (i * 3) l ≡ take (i * 3) (filled w h red green blue)
       → take ((i + 1) * 3) (set (set (set l (i * 3) red) (i * 3 + 1) green) (i * 3 + 2) blue) ≡ take ((i + 1) * 3) (filled w h red green blue)
   fill-more l i e k p =
       let s = filled w h red green blue in
@@ -123,37 +129,44 @@ module _ (w h : ℕ) (red green blue : Float) where
       let b' : take (i * 3 + 2) l2 ≡ take (i * 3 + 2) s = rw o b in
       rw t (agree-more l2 s (i * 3 + 2) nan blue e2 (omega (arith, length-set l1 (i * 3 + 1) green, length-set l (i * 3) red)) b' (sym (filled-at i 2 k (omega arith))))
 
-  pub fill-done : (l : List Float) (k : ℕ) → length l ≡ h * w * 3 → h * w * 3 ≤ k → take k l ≡ take k (filled w h red green blue) → l ≡ filled w h red green blue
-  fill-done l k e n p = agree-all l (filled w h red green blue) k (e ∙ sym length-filled) (omega (arith, length-filled)) p
+  -- the first i pixels of l are written
+  pub record FilledTo (i : ℕ) (l : List Float) : Type 0 where
+    pub size : length l ≡ h * w * 3
+    pub first : take (i * 3) l ≡ take (i * 3) (filled w h red green blue)
 
-  -- numbers that are three apart, or any number of pixels, are the same
-  same-channel : (k : ℕ) → 48 ≤ k → k < h * w * 3 → getD (filled w h red green blue) (k - 48) nan ≡ getD (filled w h red green blue) k nan
-  same-channel k a b =
-      let s = filled w h red green blue in
-      let here : k ≡ k / 3 * 3 + k % 3 = omega arith in
-      let there : k - 48 ≡ (k / 3 - 16) * 3 + k % 3 = omega arith in
-      ap (λ (j : ℕ). getD s j nan) there
-      ∙ filled-at (k / 3 - 16) (k % 3) (omega arith) (omega arith)
-      ∙ sym (filled-at (k / 3) (k % 3) (omega arith) (omega arith))
-      ∙ ap (λ (j : ℕ). getD s j nan) (sym here)
+  pub fill-none : (l : List Float) → length l ≡ h * w * 3 → FilledTo 0 l
+  fill-none l e = record { size = e; first = refl }
 
-  -- the first pixels are written, 16 of them or all
-  pub fill-begun : (l : List Float) (i : ℕ) → length l ≡ h * w * 3 → i ≡ min (h * w) 16 → take (i * 3) l ≡ take (i * 3) (filled w h red green blue)
-      → take 48 l ≡ take 48 (filled w h red green blue)
-  fill-begun l i e m p = by (le-or-lt 16 (h * w))
-    where
-      by : ((16 ≤ h * w) ⊎ (h * w < 16)) → take 48 l ≡ take 48 (filled w h red green blue)
-      by (inl a) = let z : i * 3 ≡ 48 = omega arith in rw z at p
-      by (inr a) = ap (take 48) (fill-done l (i * 3) e (omega arith) p)
+  -- one more
+  pub fill-put : (l m : List Float) (i j : ℕ) (r g b : Float) → m ≡ pixelPut i r g b l → j ≡ i + 1 → i < h * w
+      → Like red green blue r g b → FilledTo i l → FilledTo j m
+  fill-put l m i j r g b e n k (p, q, s) f = rw (e, n, p, q, s) (record {
+    size = simp length-set (f .size);
+    first = fill-more l i (f .size) k (f .first);
+  })
 
-  -- a number is that of 16 pixels before
-  pub fill-repeat : (l : List Float) (k : ℕ) → length l ≡ h * w * 3 → 48 ≤ k → k < h * w * 3 → take k l ≡ take k (filled w h red green blue)
-      → take (k + 1) (set l k (getD l (k - 48) nan)) ≡ take (k + 1) (filled w h red green blue)
-  fill-repeat l k e a b p =
-      let s = filled w h red green blue in
-      let before : getD l (k - 48) nan ≡ getD s (k - 48) nan
-      = sym (getD-take k l (k - 48) nan (omega arith)) ∙ ap (λ (t : List Float). getD t (k - 48) nan) p ∙ getD-take k s (k - 48) nan (omega arith) in
-      agree-more l s k nan _ (e ∙ sym length-filled) (omega arith) p (before ∙ same-channel k a b)
+  -- all are written
+  pub fill-done : (l : List Float) (i : ℕ) → h * w ≤ i → FilledTo i l → l ≡ filled w h red green blue
+  fill-done l i n f = agree-all l (filled w h red green blue) (i * 3) (f .size ∙ sym length-filled) (omega (arith, length-filled)) (f .first)
+
+  -- a pixel that is written has the colour
+  written : (l : List Float) (i j ch : ℕ) → j < i → i ≤ h * w → ch < 3 → FilledTo i l → getD l (j * 3 + ch) nan ≡ channelOf red green blue ch
+  written l i j ch a b c f =
+      let k = j * 3 + ch in
+      let m : k < i * 3 = omega arith in
+      sym (getD-take (i * 3) l k nan m)
+      ∙ ap (λ (t : List Float). getD t k nan) (f .first)
+      ∙ getD-take (i * 3) (filled w h red green blue) k nan m
+      ∙ filled-at j ch (omega arith) c
+
+  pub written-pixel : (l : List Float) (i j : ℕ) → j < i → i ≤ h * w → FilledTo i l
+      → Like red green blue (getD l (j * 3) nan) (getD l (j * 3 + 1) nan) (getD l (j * 3 + 2) nan)
+  written-pixel l i j a b f =
+      let z : j * 3 ≡ j * 3 + 0 = omega arith in (
+        ap (λ (k : ℕ). getD l k nan) z ∙ written l i j 0 a b (omega arith) f,
+        written l i j 1 a b (omega arith) f,
+        written l i j 2 a b (omega arith) f,
+      )
 
   -- a colour within 0..1 fills a picture within 0..1
   pub filled-within : badColour red green blue ≡ false → T (allWithin (filled w h red green blue))

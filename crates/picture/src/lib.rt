@@ -9,7 +9,7 @@ ghost use Rattle.refusal.specs.Refusals.{Sized, lowest, sizeIf, lengthIf, badSi
 ghost use Rattle.refusal.specs.Lengths.{badPicture};
 ghost use Rattle.cover.specs.Cover.{badPlaces};
 ghost use Rattle.picture.specs.Painting.{BlendSays};
-ghost use Rattle.picture.specs.Strokes.{brushedPart, brushedRows, RowsWithin};
+ghost use Rattle.picture.specs.Strokes.{brushedPart, brushedRows, pixelPut, RowsWithin};
 ghost use Rattle.picture.specs.Pixels.{BadColourSays, FillSays, FilledCanvasSays, fillRefusal, MeanRgbSays, SseTotalSays, TotalAnySays};
 use brush::Brush;
 use cover::Kind;
@@ -82,7 +82,9 @@ fn fill_refusal(w: usize, h: usize, red: f32, green: f32, blue: f32, n: usize) -
     0
 }
 
-// The same without the tests, for any colour bits.
+// The same without the tests, for any colour bits. After the first 16 pixels, four at a time: their twelve numbers are read back
+// from the first four, one after another as they stand, so that the compiler holds and stores them as vectors. Of `red`, `green`
+// and `blue` themselves it makes a store for each number on x86-64.
 pub fn fill(w: usize, h: usize, red: f32, green: f32, blue: f32, canvas: &mut [f32])
     requires { ⌜ length (now canvas) ≡ h * w * 3 ⌝ }
     ensures { λ _. ⌜ FillSays w h red green blue (now (canvas .exit)) ⌝ }
@@ -90,14 +92,44 @@ pub fn fill(w: usize, h: usize, red: f32, green: f32, blue: f32, canvas: &mut [f
     let n = h * w;
     let begun = whole::min_usize(n, 16);
     for i in 0..begun {
-        canvas[i * 3] = red;
-        canvas[i * 3 + 1] = green;
-        canvas[i * 3 + 2] = blue;
+        put(i, red, green, blue, canvas);
     }
-    let end = n * 3;
-    for k in 48..end {
-        canvas[k] = canvas[k - 48];
+    if n <= 16 {
+        return;
     }
+    let r0 = canvas[0];
+    let g0 = canvas[1];
+    let b0 = canvas[2];
+    let r1 = canvas[3];
+    let g1 = canvas[4];
+    let b1 = canvas[5];
+    let r2 = canvas[6];
+    let g2 = canvas[7];
+    let b2 = canvas[8];
+    let r3 = canvas[9];
+    let g3 = canvas[10];
+    let b3 = canvas[11];
+    let fours = n / 4;
+    for i in 4..fours {
+        put(i * 4, r0, g0, b0, canvas);
+        put(i * 4 + 1, r1, g1, b1, canvas);
+        put(i * 4 + 2, r2, g2, b2, canvas);
+        put(i * 4 + 3, r3, g3, b3, canvas);
+    }
+    for i in fours * 4..n {
+        put(i, red, green, blue, canvas);
+    }
+}
+
+// Pixel i gets the colour.
+fn put(i: usize, red: f32, green: f32, blue: f32, canvas: &mut [f32])
+    requires { ⌜ i * 3 + 3 ≤ length (now canvas) ⌝ }
+    ensures { λ _. ⌜ now (canvas .exit) ≡ pixelPut i red green blue (now (canvas .entry)) ⌝ }
+{
+    let k = i * 3;
+    canvas[k] = red;
+    canvas[k + 1] = green;
+    canvas[k + 2] = blue;
 }
 
 // ---- mean

@@ -31,14 +31,14 @@ fn fill_on(w: usize, h: usize, red: f32, green: f32, blue: f32, canvas: &mut [f3
 }
 
 fn fill(w: usize, h: usize, n: usize, red: f32, green: f32, blue: f32) {
-    let mut canvas = [0.0f32; 60];
+    let mut canvas = [0.0f32; 63];
     show::text(b"fill ");
     size(w, h, n);
     show::text(b", colour");
     figures::number(red);
     figures::number(green);
     figures::number(blue);
-    if n <= 60 {
+    if n <= 63 {
         fill_on(w, h, red, green, blue, &mut canvas[0..n]);
     }
 }
@@ -46,8 +46,8 @@ fn fill(w: usize, h: usize, n: usize, red: f32, green: f32, blue: f32) {
 fn fills() {
     fill(1, 2, 6, 0.1, 0.2, 0.3);
     fill(2, 1, 6, -0.0, 1.0, 0.0);
-    // from the seventeenth pixel on a picture is filled by copying
-    fill(6, 3, 54, 0.1, 0.2, 0.3);
+    // pixels 16 to 19 are written as four, pixel 20 by itself again
+    fill(7, 3, 63, 0.1, 0.2, 0.3);
     // a size; a product of sizes that wraps would be 6
     fill(0, 2, 6, 0.1, 0.2, 0.3);
     fill(1, 257, 6, 0.1, 0.2, 0.3);

@@ -17,16 +17,16 @@ returns : tie.Need-returns
 unfolding narrowed
 returns c = nan32 ∙ sym (ap narrowed (differs-from-itself (c .before .args .x) (subst T (sym (c .if1 .taken)) tt)))
 
-float-to-bits-narrow-bits : tie.Need-float-to-bits-narrow-bits
-float-to-bits-narrow-bits c = itself-no-nan (c .before .args .x) (c .if1 .left)
+float-to-bits-any-bits : tie.Need-float-to-bits-any-bits
+float-to-bits-any-bits c = itself-no-nan (c .before .args .x) (c .if1 .left)
 
-narrow-bits-requires : tie.Need-narrow-bits-requires
-narrow-bits-requires c κs = search needs
+any-bits-requires : tie.Need-any-bits-requires
+any-bits-requires c κs = search needs
 
 -- the pattern that came back is that of `narrowed x`
-pattern : (c : tie.After-narrow-bits) → c .narrow-bits .result ≡ toBits binary32 (narrowed (c .before .before .args .x))
+pattern : (c : tie.After-any-bits) → c .any-bits .result ≡ toBits binary32 (narrowed (c .before .before .args .x))
 pattern c =
-    c .narrow-bits .ensures ∙ ap (λ (v : Float). toBits binary32 (narrowed v)) (ofBits-toBits binary64 (c .before .before .args .x) (subst T (sym (c .before .before .good .0 .1)) tt))
+    c .any-bits .ensures ∙ ap (λ (v : Float). toBits binary32 (narrowed v)) (ofBits-toBits binary64 (c .before .before .args .x) (subst T (sym (c .before .before .good .0 .1)) tt))
 
 float-from-bits-result : tie.Need-float-from-bits-result
 float-from-bits-result c =
@@ -39,4 +39,4 @@ returns-2 c =
     ap (ofBits binary32) (pattern c) ∙ ofBits-toBits binary32 (narrowed x) (narrowed-fits x)
 
 pub narrow-spec : {M : Type 1} → statement M
-narrow-spec = tie.close (tie.spec returns float-to-bits-narrow-bits narrow-bits-requires float-from-bits-result returns-2)
+narrow-spec = tie.close (tie.spec returns float-to-bits-any-bits any-bits-requires float-from-bits-result returns-2)

@@ -1,22 +1,23 @@
--- Each way out is one case of the laws in `Narrowing`: normal, NaN, zero or infinity, below the normal range.
-use borrow.Author.Needs.{needs}
+-- By the exponent: f32's normal range, what is 0 or infinity; the rest is `any_bits`'s.
 use mathlib.Core.Path.{_≡_, sym, ap, _∙_, subst}
-use Prim.Native.Nat.{ℕ, _+_, _≤_, _<_}
-use mathlib.Core.Bool.{false, _||_}
-use lib.Dec.{ltb, leb}
+use Prim.Native.Nat.{ℕ, _+_, _*_, _/_, _%_, _≤_, _<_}
+use Rattle.float.specs.Narrowing.{sgn, body, expo, between, at-under, at-beyond}
 use native.Mathlib.Omega.{arith}
-use Rattle.float.specs.Narrowing.{sgn, body, between, not-outside, at-nan, at-under, at-far, at-tiny, tiny-small}
+use borrow.Author.Needs.{needs}
 use Rattle.float.proofs.narrow_bits.Statement.{statement}
 use Rattle.float.proofs.narrow_bits.Tie as tie
 
-subnormal : (b : ℕ) → ltb (body b) 0x3670_0000_0000_0000 || leb 0x3810_0000_0000_0000 (body b) ≡ false → (0x3670_0000_0000_0000 ≤ body b) × (body b < 0x3810_0000_0000_0000)
-subnormal b h = not-outside 0x3670_0000_0000_0000 (body b) 0x3810_0000_0000_0000 h
+exponent : (b : ℕ) → b / 0x10_0000_0000_0000 % 2048 ≡ expo b
+exponent b = omega arith
+
+normal : (b : ℕ) → (897 ≤ b / 0x10_0000_0000_0000 % 2048) × (b / 0x10_0000_0000_0000 % 2048 < 1150) → (0x3810_0000_0000_0000 ≤ body b) × (body b < 0x47ef_ffff_f000_0000)
+normal b w = (omega (arith, w .0), omega (arith, w .1))
 
 mul-sign : tie.Need-mul-sign
 mul-sign c = search needs
 
 shorten-requires : tie.Need-shorten-requires
-shorten-requires c κs = between _ _ _ (c .if1 .taken)
+shorten-requires c κs = normal _ (between _ _ _ (c .if1 .taken))
 
 add-result : tie.Need-add-result
 add-result c = search needs
@@ -29,52 +30,32 @@ returns c =
     let i = c .before .before in
     let e = c .shorten .ensures in
     ap (λ (z : ℕ). sgn (i .args .b) + z) (e .0)
-    ∙ sym (at-under (i .args .b) (i .fits .b .fits) (between _ _ _ (c .before .if1 .taken) .0) (subst (λ (z : ℕ). z < 0x7f80_0000) (e .0) (e .1)))
+    ∙ sym (at-under (i .args .b) (i .fits .b .fits) (normal _ (between _ _ _ (c .before .if1 .taken)) .0) (subst (λ (z : ℕ). z < 0x7f80_0000) (e .0) (e .1)))
 
-returns-2 : tie.Need-returns-2
-returns-2 c = sym (at-nan (c .before .before .before .args .b) (c .if3 .taken))
+mul-sign-2 : tie.Need-mul-sign-2
+mul-sign-2 c = search needs
 
-far-requires : tie.Need-far-requires
-far-requires c κs = search needs
+mul-result : tie.Need-mul-result
+mul-result c = search needs
 
 add-result-2 : tie.Need-add-result-2
-add-result-2 c = omega (arith, c .far .ensures .1)
+add-result-2 c = search needs
 
 cast-result-2 : tie.Need-cast-result-2
-cast-result-2 c = omega (arith, c .far .ensures .1)
+cast-result-2 c = search needs
+
+returns-2 : tie.Need-returns-2
+returns-2 c =
+    let i = c .before .before .before in
+    let b = i .args .b in
+    let x = exponent b in
+    rw x (sym (at-beyond b (i .fits .b .fits) (rw x at (c .before .if2 .taken)) (rw x at (c .if3 .taken))))
+
+any-bits-requires : tie.Need-any-bits-requires
+any-bits-requires c κs = search needs
 
 returns-3 : tie.Need-returns-3
-returns-3 c =
-    let i = c .before .before .before .before in
-    ap (λ (z : ℕ). sgn (i .args .b) + z) (c .far .ensures .0)
-    ∙ sym (at-far (i .args .b) (i .fits .b .fits) (c .before .before .before .if1 .left) (c .before .before .if2 .taken) (c .before .if3 .left))
-
-add-q : tie.Need-add-q
-add-q c = search needs
-
-sub-closest-shift : tie.Need-sub-closest-shift
-sub-closest-shift c = let w = subnormal (c .before .before .args .b) (c .if2 .left) in omega (arith, w .0, w .1)
-
-closest-shift-requires : tie.Need-closest-shift-requires
-closest-shift-requires c κs = let w = subnormal (c .before .before .args .b) (c .if2 .left) in (omega arith, omega (arith, w .0, w .1))
-
-add-result-3 : tie.Need-add-result-3
-add-result-3 c =
-    let i = c .before .before .before in
-    let w = subnormal (i .args .b) (c .before .if2 .left) in
-    omega (arith, c .closest-shift .ensures, tiny-small (i .args .b) (i .fits .b .fits) (omega (arith, w .1)))
-
-cast-result-3 : tie.Need-cast-result-3
-cast-result-3 c =
-    let i = c .before .before .before in
-    let w = subnormal (i .args .b) (c .before .if2 .left) in
-    omega (arith, c .closest-shift .ensures, tiny-small (i .args .b) (i .fits .b .fits) (omega (arith, w .1)))
-
-returns-4 : tie.Need-returns-4
-returns-4 c =
-    let i = c .before .before .before in
-    let w = subnormal (i .args .b) (c .before .if2 .left) in
-    ap (λ (z : ℕ). sgn (i .args .b) + z) (c .closest-shift .ensures) ∙ sym (at-tiny (i .args .b) (i .fits .b .fits) (omega (arith, w .0)) (omega (arith, w .1)))
+returns-3 c = search needs
 
 pub narrow-bits-spec : {M : Type 1} → statement M
 narrow-bits-spec =
@@ -85,14 +66,10 @@ narrow-bits-spec =
     add-result
     cast-result
     returns
-    returns-2
-    far-requires
+    mul-sign-2
+    mul-result
     add-result-2
     cast-result-2
-    returns-3
-    add-q
-    sub-closest-shift
-    closest-shift-requires
-    add-result-3
-    cast-result-3
-    returns-4)
+    returns-2
+    any-bits-requires
+    returns-3)
