@@ -13,7 +13,8 @@ use std::rc::Rc;
 
 const W: usize = 96;
 const H: usize = 64;
-const MANY: usize = 256;
+// A search scores each proposal once. With few shapes, over and over, the processor learns the way of every branch through all of them.
+const MANY: usize = 4096;
 
 struct Scene {
     target: Vec<f32>,
