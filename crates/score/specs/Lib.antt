@@ -2,6 +2,7 @@ pub mod Scoring
 pub mod Usual
 pub mod RunSums
 pub mod StampSums
+pub mod Paired
 pub mod ScoringLaws
 pub mod StampSumLaws
 pub mod CallLaws

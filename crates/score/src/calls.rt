@@ -155,7 +155,14 @@ pub fn circle_point_score(
         if (bottom - top <= 8) & (left < w) {
             let bits = cover::stamps::stamp_of(kind, left, top, w, h);
             if bits != 0 {
-                let few = crate::points::push_stamp(bits, left, top, target, canvas, w);
+                let few = crate::points::unpaired(crate::points::push_stamp(
+                    bits,
+                    left,
+                    top,
+                    target,
+                    canvas,
+                    w,
+                ));
                 return done(grade::finalize(few, opacity));
             }
         }
@@ -203,7 +210,14 @@ pub fn triangle_point_score(
         if (bottom - top <= 8) & (left < w) {
             let bits = cover::stamps::stamp_of(kind, left, top, w, h);
             if bits != 0 {
-                let few = crate::points::push_stamp(bits, left, top, target, canvas, w);
+                let few = crate::points::unpaired(crate::points::push_stamp(
+                    bits,
+                    left,
+                    top,
+                    target,
+                    canvas,
+                    w,
+                ));
                 return done(grade::finalize(few, opacity));
             }
         }
@@ -309,7 +323,14 @@ pub fn collect_circle_sums(
         if (bottom - top <= 8) & (left < w) {
             let bits = cover::stamps::stamp_of(kind, left, top, w, h);
             if bits != 0 {
-                let few = crate::points::push_stamp(bits, left, top, target, canvas, w);
+                let few = crate::points::unpaired(crate::points::push_stamp(
+                    bits,
+                    left,
+                    top,
+                    target,
+                    canvas,
+                    w,
+                ));
                 return Collected {
                     sums: few,
                     refused: 0,
@@ -352,7 +373,14 @@ pub fn collect_triangle_sums(
         if (bottom - top <= 8) & (left < w) {
             let bits = cover::stamps::stamp_of(kind, left, top, w, h);
             if bits != 0 {
-                let few = crate::points::push_stamp(bits, left, top, target, canvas, w);
+                let few = crate::points::unpaired(crate::points::push_stamp(
+                    bits,
+                    left,
+                    top,
+                    target,
+                    canvas,
+                    w,
+                ));
                 return Collected {
                     sums: few,
                     refused: 0,

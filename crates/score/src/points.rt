@@ -5,12 +5,101 @@ ghost use Prim.Native.Nat.{_+_, _-_, _*_, _/_, _%_, _≤_, _<_, _^_};
 ghost use lib.ListN.{length};
 ghost use Rattle.refusal.specs.Refusals.{Sized};
 ghost use Rattle.cover.specs.Cover.{badPlaces};
-ghost use Rattle.sums.specs.Sums.{noSums, plus};
+ghost use Rattle.sums.specs.Sums.{noSums, plus, pixelSums};
 ghost use Rattle.score.specs.RunSums.{pixelsAdded, pointsAdded, RunsFit, NumbersIn, Reached};
 ghost use Rattle.score.specs.StampSums.{stampPoints, StampIn};
 ghost use Rattle.score.specs.Scoring.{pixelFrom, pointSums};
+ghost use Rattle.score.specs.Paired.{unpairedOf};
 use cover::Kind;
 use sums::ShapeSums;
+
+// The sums in the order that the compiler pairs well: it adds the first two channels of a pixel side by side in one register, and the third
+// by itself.
+pub(crate) struct Paired {
+    t0: f64,
+    t1: f64,
+    c0: f64,
+    c1: f64,
+    tt0: f64,
+    tt1: f64,
+    cc0: f64,
+    cc1: f64,
+    tc0: f64,
+    tc1: f64,
+    t2: f64,
+    tt2: f64,
+    c2: f64,
+    tc2: f64,
+    cc2: f64,
+    count: u32,
+}
+
+fn no_pairs() -> Paired
+    ensures { λ r. ⌜ unpairedOf r ≡ noSums ⌝ }
+{
+    Paired {
+        t0: 0.0,
+        t1: 0.0,
+        c0: 0.0,
+        c1: 0.0,
+        tt0: 0.0,
+        tt1: 0.0,
+        cc0: 0.0,
+        cc1: 0.0,
+        tc0: 0.0,
+        tc1: 0.0,
+        t2: 0.0,
+        tt2: 0.0,
+        c2: 0.0,
+        tc2: 0.0,
+        cc2: 0.0,
+        count: 0,
+    }
+}
+
+// One pixel more, of values that are widened already.
+fn push_pair(s: Paired, tr: f64, tg: f64, tb: f64, cr: f64, cg: f64, cb: f64) -> Paired
+    requires { ⌜ s .count + 1 < 2 ^ 32 ⌝ }
+    ensures { λ r. ⌜ unpairedOf r ≡ plus (unpairedOf s) (pixelSums tr tg tb cr cg cb) ⌝ }
+{
+    Paired {
+        t0: s.t0 + tr,
+        t1: s.t1 + tg,
+        c0: s.c0 + cr,
+        c1: s.c1 + cg,
+        tt0: s.tt0 + tr * tr,
+        tt1: s.tt1 + tg * tg,
+        cc0: s.cc0 + cr * cr,
+        cc1: s.cc1 + cg * cg,
+        tc0: s.tc0 + tr * cr,
+        tc1: s.tc1 + tg * cg,
+        t2: s.t2 + tb,
+        tt2: s.tt2 + tb * tb,
+        c2: s.c2 + cb,
+        tc2: s.tc2 + tb * cb,
+        cc2: s.cc2 + cb * cb,
+        count: s.count + 1,
+    }
+}
+
+// The same numbers, channel by channel.
+pub(crate) fn unpaired(s: Paired) -> ShapeSums
+    ensures { λ r. ⌜ r ≡ unpairedOf s ⌝ }
+{
+    let s_t = [s.t0, s.t1, s.t2];
+    let s_c = [s.c0, s.c1, s.c2];
+    let s_t2 = [s.tt0, s.tt1, s.tt2];
+    let s_c2 = [s.cc0, s.cc1, s.cc2];
+    let s_tc = [s.tc0, s.tc1, s.tc2];
+    ShapeSums {
+        s_t,
+        s_c,
+        s_t2,
+        s_c2,
+        s_tc,
+        count: s.count,
+    }
+}
 
 // None of the values a <= i < e is a NaN.
 fn numbers_in(xs: &[f32], a: usize, e: usize) -> bool
@@ -35,27 +124,29 @@ fn both_numbers(target: &[f32], canvas: &[f32], a: usize, e: usize) -> bool
 }
 
 // The pixel whose channels begin at place `at`, of any bits.
-fn push_any(target: &[f32], canvas: &[f32], at: usize, s: ShapeSums) -> ShapeSums
+fn push_any(target: &[f32], canvas: &[f32], at: usize, s: Paired) -> Paired
     requires { ⌜ (at + 3 ≤ length (now target)) × (at + 3 ≤ length (now canvas)) × (s .count + 1 < 2 ^ 32) ⌝ }
-    ensures { λ r. ⌜ r ≡ plus s (pixelFrom (now (target .entry)) (now (canvas .entry)) at) ⌝ }
+    ensures { λ r. ⌜ unpairedOf r ≡ plus (unpairedOf s) (pixelFrom (now (target .entry)) (now (canvas .entry)) at) ⌝ }
 {
-    s.push(
-        target[at],
-        target[at + 1],
-        target[at + 2],
-        canvas[at],
-        canvas[at + 1],
-        canvas[at + 2],
+    push_pair(
+        s,
+        float::widen(target[at]),
+        float::widen(target[at + 1]),
+        float::widen(target[at + 2]),
+        float::widen(canvas[at]),
+        float::widen(canvas[at + 1]),
+        float::widen(canvas[at + 2]),
     )
 }
 
 // The same where none is a NaN: widened without a test.
-fn push_numbers(target: &[f32], canvas: &[f32], at: usize, s: ShapeSums) -> ShapeSums
+fn push_numbers(target: &[f32], canvas: &[f32], at: usize, s: Paired) -> Paired
     requires { ⌜ (at + 3 ≤ length (now target)) × (at + 3 ≤ length (now canvas)) × (s .count + 1 < 2 ^ 32) ⌝ }
     requires { ⌜ NumbersIn (now target) at (at + 3) × NumbersIn (now canvas) at (at + 3) ⌝ }
-    ensures { λ r. ⌜ r ≡ plus s (pixelFrom (now (target .entry)) (now (canvas .entry)) at) ⌝ }
+    ensures { λ r. ⌜ unpairedOf r ≡ plus (unpairedOf s) (pixelFrom (now (target .entry)) (now (canvas .entry)) at) ⌝ }
 {
-    s.push_wide(
+    push_pair(
+        s,
         float::widen_number(target[at]),
         float::widen_number(target[at + 1]),
         float::widen_number(target[at + 2]),
@@ -87,12 +178,12 @@ fn push_known(
     y: usize,
     left: usize,
     right: usize,
-    sums: ShapeSums,
-) -> ShapeSums
+    sums: Paired,
+) -> Paired
     requires sizes { ⌜ (w ≤ 256) × (y < 256) × (left ≤ right) × (right ≤ w) × (sums .count + (right - left) < 2 ^ 31) ⌝ }
     requires lent { ⌜ (y * w * 3 + w * 3 ≤ length (now target)) × (y * w * 3 + w * 3 ≤ length (now canvas)) ⌝ }
     requires numbers { ⌜ NumbersIn (now target) ((y * w + left) * 3) ((y * w + right) * 3) × NumbersIn (now canvas) ((y * w + left) * 3) ((y * w + right) * 3) ⌝ }
-    ensures { λ r. ⌜ r ≡ pixelsAdded w (now (target .entry)) (now (canvas .entry)) y left (right - left) sums ⌝ }
+    ensures { λ r. ⌜ unpairedOf r ≡ pixelsAdded w (now (target .entry)) (now (canvas .entry)) y left (right - left) (unpairedOf sums) ⌝ }
 {
     let mut s = sums;
     let mut x = left;
@@ -111,11 +202,11 @@ fn push_tested(
     y: usize,
     left: usize,
     right: usize,
-    sums: ShapeSums,
-) -> ShapeSums
+    sums: Paired,
+) -> Paired
     requires sizes { ⌜ (w ≤ 256) × (y < 256) × (left ≤ right) × (right ≤ w) × (sums .count + (right - left) < 2 ^ 31) ⌝ }
     requires lent { ⌜ (y * w * 3 + w * 3 ≤ length (now target)) × (y * w * 3 + w * 3 ≤ length (now canvas)) ⌝ }
-    ensures { λ r. ⌜ r ≡ pixelsAdded w (now (target .entry)) (now (canvas .entry)) y left (right - left) sums ⌝ }
+    ensures { λ r. ⌜ unpairedOf r ≡ pixelsAdded w (now (target .entry)) (now (canvas .entry)) y left (right - left) (unpairedOf sums) ⌝ }
 {
     let mut s = sums;
     let mut x = left;
@@ -141,11 +232,11 @@ fn push_row(
     y: usize,
     left: usize,
     right: usize,
-    sums: ShapeSums,
-) -> ShapeSums
+    sums: Paired,
+) -> Paired
     requires sizes { ⌜ (w ≤ 256) × (y < 256) × (left ≤ right) × (right ≤ w) × (sums .count + (right - left) < 2 ^ 31) ⌝ }
     requires lent { ⌜ (y * w * 3 + w * 3 ≤ length (now target)) × (y * w * 3 + w * 3 ≤ length (now canvas)) ⌝ }
-    ensures { λ r. ⌜ r ≡ pixelsAdded w (now (target .entry)) (now (canvas .entry)) y left (right - left) sums ⌝ }
+    ensures { λ r. ⌜ unpairedOf r ≡ pixelsAdded w (now (target .entry)) (now (canvas .entry)) y left (right - left) (unpairedOf sums) ⌝ }
 {
     if both_numbers(target, canvas, (y * w + left) * 3, (y * w + right) * 3) {
         return push_known(target, canvas, w, y, left, right, sums);
@@ -161,12 +252,12 @@ fn push_rows(
     target: &[f32],
     canvas: &[f32],
     w: usize,
-) -> ShapeSums
+) -> Paired
     requires sizes { ⌜ (w ≤ 256) × (top ≤ bottom) × (bottom ≤ 256) × (bottom * (w * 3) ≤ length (now target)) × (bottom * (w * 3) ≤ length (now canvas)) ⌝ }
     requires runs { ⌜ RunsFit (now runs) w top bottom ⌝ }
-    ensures { λ r. ⌜ r ≡ pointsAdded w (now (target .entry)) (now (canvas .entry)) (now (runs .entry)) top (bottom - top) ⌝ }
+    ensures { λ r. ⌜ unpairedOf r ≡ pointsAdded w (now (target .entry)) (now (canvas .entry)) (now (runs .entry)) top (bottom - top) ⌝ }
 {
-    let mut s = ShapeSums::new();
+    let mut s = no_pairs();
     let mut y = top;
     while y < bottom {
         let left = runs[y * 2] as usize;
@@ -194,13 +285,13 @@ fn push_stamp_any(
     target: &[f32],
     canvas: &[f32],
     w: usize,
-    sums: ShapeSums,
-) -> ShapeSums
+    sums: Paired,
+) -> Paired
     requires bits { ⌜ (from ≤ 64) × (rest < 2 ^ (64 - from)) × (sums .count ≤ from) ⌝ }
     requires window { ⌜ (left < 256) × (top < 256) × (w ≤ 256) ⌝ }
     requires lent { ⌜ length (now canvas) ≡ length (now target) ⌝ }
     requires pixels { ⌜ StampIn w left top (length (now target)) from rest ⌝ }
-    ensures { λ r. ⌜ r ≡ stampPoints w (now (target .entry)) (now (canvas .entry)) left top from rest sums ⌝ }
+    ensures { λ r. ⌜ unpairedOf r ≡ stampPoints w (now (target .entry)) (now (canvas .entry)) left top from rest (unpairedOf sums) ⌝ }
 {
     let mut s = sums;
     let mut b = rest;
@@ -223,13 +314,13 @@ pub(crate) fn push_stamp(
     target: &[f32],
     canvas: &[f32],
     w: usize,
-) -> ShapeSums
+) -> Paired
     requires window { ⌜ (left < 256) × (top < 256) × (w ≤ 256) ⌝ }
     requires lent { ⌜ length (now canvas) ≡ length (now target) ⌝ }
     requires pixels { ⌜ StampIn w left top (length (now target)) 0 bits ⌝ }
-    ensures { λ r. ⌜ r ≡ stampPoints w (now (target .entry)) (now (canvas .entry)) left top 0 bits noSums ⌝ }
+    ensures { λ r. ⌜ unpairedOf r ≡ stampPoints w (now (target .entry)) (now (canvas .entry)) left top 0 bits noSums ⌝ }
 {
-    let mut s = ShapeSums::new();
+    let mut s = no_pairs();
     let mut b = bits;
     let mut i = 0;
     while b != 0 {
@@ -264,7 +355,7 @@ pub(crate) fn reached_sums(
 {
     let mut runs = [0u16; 512];
     cover::runs(kind, w, h, &mut runs);
-    push_rows(&runs, top, bottom, target, canvas, w)
+    unpaired(push_rows(&runs, top, bottom, target, canvas, w))
 }
 
 // The sums of a shape whose sizes and places were tested, over the rows of its reach. `push_rows` has two callers, so that the compiler keeps
@@ -289,5 +380,5 @@ pub(crate) fn point_sums(
     }
     let mut runs = [0u16; 512];
     cover::runs(kind, w, h, &mut runs);
-    push_rows(&runs, top, bottom, target, canvas, w)
+    unpaired(push_rows(&runs, top, bottom, target, canvas, w))
 }

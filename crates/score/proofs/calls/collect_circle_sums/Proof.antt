@@ -73,9 +73,13 @@ push-stamp-requires c κs =
     let l = (picture-lengths (a .w) (a .h) (length (a .target .now)) (length (a .canvas .now)) (f .1)) in
     ((omega (arith, k .0), omega (arith, k .1), sizes e .w-high), (l .1 ∙ sym (l .0), stamp-in _ _ _ (a .w) (a .h) _ g (length (a .target .now)) (l .0)))
 
+unpaired-requires : tie.Need-unpaired-requires
+unpaired-requires c κs = search needs
+
 returns-2 : tie.Need-returns-2
 returns-2 d =
-    let p = d .before in
+    let v = d .before in
+    let p = v .before in
     let s = p .before in
     let e = s .before .before .before in
     let t = e .before .before in
@@ -83,7 +87,7 @@ returns-2 d =
     let z = t .before .before .before .before in
     simp (toZ-ofZ, z .fits .cx, z .fits .cy, z .fits .r) at (
     point-sums-told _ (a .w) (a .h) (a .target .now) (a .canvas .now) (t .before .usual-pictures .ensures (t .if1 .taken))
-    (d .push-stamp .result) (d .push-stamp .ensures ∙ stamp-is-points _ _ _ (a .w) (a .h) _ (s .stamp-of .ensures (λ q. omega (arith, p .if4 .taken, q))) (a .target .now) (a .canvas .now)))
+    (d .unpaired .result) (d .unpaired .ensures ∙ v .push-stamp .ensures ∙ stamp-is-points _ _ _ (a .w) (a .h) _ (s .stamp-of .ensures (λ q. omega (arith, p .if4 .taken, q))) (a .target .now) (a .canvas .now)))
 
 reached-sums-requires : tie.Need-reached-sums-requires
 reached-sums-requires c κs =
@@ -120,6 +124,7 @@ collect-circle-sums-spec =
     sub-if3
     stamp-of-requires
     push-stamp-requires
+    unpaired-requires
     returns-2
     reached-sums-requires
     returns-3

@@ -44,14 +44,18 @@ push-rows-requires c κs =
     let m = reached-high (a .kind) (a .w) (a .h) (s .pre .0) (r .top) (r .bottom) (reached t) (a .w * 3) in
     ((k .0, k .1, k .2, omega (arith, m, s .pre .1 .1 .0), omega (arith, m, s .pre .1 .1 .1)), reached-fit (a .kind) (a .w) (a .h) (s .pre .0) (r .top) (r .bottom) (reached t) _ (c .before .runs2 .ensures))
 
+unpaired-requires : tie.Need-unpaired-requires
+unpaired-requires c κs = search needs
+
 returns-2 : tie.Need-returns-2
 returns-2 c =
-    let t = c .before .before .before .before in
+    let p = c .before in
+    let t = p .before .before .before .before in
     let r = t .before .reach-rows .result in
     let s = start t in
     let a = s .args in
-    c .push-rows .ensures ∙ reached-points (a .kind) (a .w) (a .h) (s .pre .0) (r .top) (r .bottom) (reached t) _ (c .before .before .runs2 .ensures) (a .target .now) (a .canvas .now)
+    c .unpaired .ensures ∙ p .push-rows .ensures ∙ reached-points (a .kind) (a .w) (a .h) (s .pre .0) (r .top) (r .bottom) (reached t) _ (p .before .before .runs2 .ensures) (a .target .now) (a .canvas .now)
 
 pub point-sums-spec : {M : Type 1} → statement M
 point-sums-spec =
-    tie.close (tie.spec reach-rows-requires new-requires returns runs-requires push-rows-requires returns-2)
+    tie.close (tie.spec reach-rows-requires new-requires returns runs-requires push-rows-requires unpaired-requires returns-2)

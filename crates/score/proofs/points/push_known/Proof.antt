@@ -5,6 +5,7 @@ use native.Mathlib.Nat.{mul-le-mul}
 use Rattle.sums.specs.declared.ShapeSums.{ShapeSums}
 use Rattle.sums.specs.Sums.{plus, pixelSums}
 use Rattle.score.specs.RunSums.{pixelsAdded}
+use Rattle.score.specs.Paired.{unpairedOf}
 use Rattle.score.specs.Scoring.{pixelAt}
 use Rattle.score.specs.ScoringLaws.{pixels-none, pixels-more}
 use borrow.Author.Needs.{needs}
@@ -14,7 +15,7 @@ use Rattle.score.proofs.points.push_known.Tie as tie
 
 abbrev Inv-loop : tie.InvT-loop
 Inv-loop target canvas w y left right s₀ x₀ s x =
-    (left ≤ x) × (x ≤ right) × (s .count ≡ s₀ .count + (x - left)) × (s ≡ pixelsAdded w target canvas y left (x - left) s₀)
+    (left ≤ x) × (x ≤ right) × (s .count ≡ s₀ .count + (x - left)) × (unpairedOf s ≡ pixelsAdded w target canvas y left (x - left) (unpairedOf s₀))
 
 abbrev μ-loop : tie.MeasureT-loop
 μ-loop target canvas w y left right s₀ x₀ s x = right - x
@@ -33,8 +34,8 @@ loop-holds c =
       omega arith,
       g .pre .0 .2,
       omega arith,
-      sym (pixels-none (a .w) (a .target .now) (a .canvas .now) (a .y) (a .left) (a .sums))
-          ∙ ap (λ (k : ℕ). pixelsAdded (a .w) (a .target .now) (a .canvas .now) (a .y) (a .left) k (a .sums)) (sym z),
+      sym (pixels-none (a .w) (a .target .now) (a .canvas .now) (a .y) (a .left) (unpairedOf (a .sums)))
+          ∙ ap (λ (k : ℕ). pixelsAdded (a .w) (a .target .now) (a .canvas .now) (a .y) (a .left) k (unpairedOf (a .sums))) (sym z),
     )
 
 module _ (c : tie.In-loop Inv-loop μ-loop) where
@@ -80,7 +81,7 @@ loop-less : tie.Need-loop-less Inv-loop μ-loop
 loop-less c = omega (arith, c .before .loop-test .taken)
 
 loop-again : tie.Need-loop-again Inv-loop μ-loop
-unfolding plus pixelSums
+unfolding plus pixelSums unpairedOf
 loop-again c =
     let t = c .before in
     let l = t .before .loop in
@@ -90,7 +91,7 @@ loop-again c =
       omega (arith, t .loop-test .taken),
       omega (arith, ap (λ (q : ShapeSums). q .count) r, l .inv .2, l .inv .0),
       r ∙ ap (λ (q : ShapeSums). plus q (pixelAt (a .w) (a .target .now) (a .canvas .now) (a .y) (l .x))) (l .inv .3)
-          ∙ pixels-more (a .w) (a .target .now) (a .canvas .now) (a .y) (a .left) (l .x) (a .sums) (l .inv .0),
+          ∙ pixels-more (a .w) (a .target .now) (a .canvas .now) (a .y) (a .left) (l .x) (unpairedOf (a .sums)) (l .inv .0),
     )
 
 returns : tie.Need-returns Inv-loop μ-loop
@@ -98,7 +99,7 @@ returns c =
     let l = c .before .loop in
     let a = c .before .before .before .before .args in
     let e : l .x ≡ a .right = omega (arith, l .inv .1, c .loop-test .left) in
-    l .inv .3 ∙ ap (λ (x : ℕ). pixelsAdded (a .w) (a .target .now) (a .canvas .now) (a .y) (a .left) (x - a .left) (a .sums)) e
+    l .inv .3 ∙ ap (λ (x : ℕ). pixelsAdded (a .w) (a .target .now) (a .canvas .now) (a .y) (a .left) (x - a .left) (unpairedOf (a .sums))) e
 
 pub push-known-spec : {M : Type 1} → statement M
 push-known-spec =

@@ -71,11 +71,11 @@ shared-slice-read-widen-number-6 c = search needs
 widen-number-requires-6 : tie.Need-widen-number-requires-6
 widen-number-requires-6 c κs = let st = c .before .before .before .before .before .before .before .before .before .before .before .before .before in st .pre .1 .1 (st .args .at + 2) (omega arith) (omega arith)
 
-push-wide-requires : tie.Need-push-wide-requires
-push-wide-requires c κs = search needs
+push-pair-requires : tie.Need-push-pair-requires
+push-pair-requires c κs = search needs
 
 returns : tie.Need-returns
-returns c = simp (c .push-wide .ensures, c .before .widen-number6 .ensures, c .before .before .before .widen-number5 .ensures, c .before .before .before .before .before .widen-number4 .ensures, c .before .before .before .before .before .before .before .widen-number3 .ensures, c .before .before .before .before .before .before .before .before .before .widen-number2 .ensures, c .before .before .before .before .before .before .before .before .before .before .before .widen-number .ensures)
+returns c = simp (c .push-pair .ensures, c .before .widen-number6 .ensures, c .before .before .before .widen-number5 .ensures, c .before .before .before .before .before .widen-number4 .ensures, c .before .before .before .before .before .before .before .widen-number3 .ensures, c .before .before .before .before .before .before .before .before .before .widen-number2 .ensures, c .before .before .before .before .before .before .before .before .before .before .before .widen-number .ensures)
 
 pub push-numbers-spec : {M : Type 1} → statement M
 push-numbers-spec =
@@ -103,5 +103,5 @@ push-numbers-spec =
     mul-widen-number-6
     shared-slice-read-widen-number-6
     widen-number-requires-6
-    push-wide-requires
+    push-pair-requires
     returns)

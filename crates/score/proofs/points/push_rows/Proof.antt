@@ -6,6 +6,7 @@ use borrow.Author.Needs.{needs}
 use native.Mathlib.Omega.{arith}
 use Rattle.laws.specs.RowLaws.{row-le}
 use Rattle.sums.specs.declared.ShapeSums.{ShapeSums}
+use Rattle.score.specs.Paired.{unpairedOf}
 use Rattle.score.specs.RunSums.{runLeft, runRight, pixelsAdded, pointsAdded}
 use Rattle.score.specs.ScoringLaws.{no-count, pixels-count, points-none, points-more}
 use Rattle.score.proofs.points.push_rows.Statement.{statement}
@@ -13,19 +14,20 @@ use Rattle.score.proofs.points.push_rows.Tie as tie
 
 abbrev Inv-loop : tie.InvT-loop
 Inv-loop runs top bottom target canvas w s₀ y₀ s y =
-    (top ≤ y) × (y ≤ bottom) × (s .count ≤ (y - top) * 256) × (s ≡ pointsAdded w target canvas runs top (y - top))
+    (top ≤ y) × (y ≤ bottom) × (s .count ≤ (y - top) * 256) × (unpairedOf s ≡ pointsAdded w target canvas runs top (y - top))
 
 abbrev μ-loop : tie.MeasureT-loop
 μ-loop runs top bottom target canvas w s₀ y₀ s y = bottom - y
 
-new-requires : tie.Need-new-requires Inv-loop μ-loop
-new-requires c κs = search needs
+no-pairs-requires : tie.Need-no-pairs-requires Inv-loop μ-loop
+no-pairs-requires c κs = search needs
 
 loop-holds : tie.Need-loop-holds Inv-loop μ-loop
+unfolding unpairedOf
 loop-holds c =
     let a = c .before .before .before .args in
     let z : a .top - a .top ≡ 0 = omega arith in
-    let n = c .new .ensures in (
+    let n = c .no-pairs .ensures in (
       omega arith,
       c .before .before .before .pre .0 .1,
       omega (arith, ap (λ (s : ShapeSums). s .count) n, no-count),
@@ -95,6 +97,7 @@ loop-less : tie.Need-loop-less Inv-loop μ-loop
 loop-less c = omega (arith, c .before .before .before .loop-test .taken)
 
 loop-again : tie.Need-loop-again Inv-loop μ-loop
+unfolding unpairedOf
 loop-again c =
     let t = c .before .before .before in
     let l = t .before .loop in
@@ -103,7 +106,7 @@ loop-again c =
     let r = c .push-row .ensures in (
       omega (arith, l .inv .0),
       omega (arith, t .loop-test .taken),
-      omega (arith, ap (λ (q : ShapeSums). q .count) r, pixels-count (a .w) (a .target .now) (a .canvas .now) (l .y) (runLeft (a .runs .now) (l .y)) (runRight (a .runs .now) (l .y) - runLeft (a .runs .now) (l .y)) (l .s), run t .0, run t .1, s .pre .0 .0, l .inv .0, l .inv .2),
+      omega (arith, ap (λ (q : ShapeSums). q .count) r, pixels-count (a .w) (a .target .now) (a .canvas .now) (l .y) (runLeft (a .runs .now) (l .y)) (runRight (a .runs .now) (l .y) - runLeft (a .runs .now) (l .y)) (unpairedOf (l .s)), run t .0, run t .1, s .pre .0 .0, l .inv .0, l .inv .2),
       r ∙ ap (pixelsAdded (a .w) (a .target .now) (a .canvas .now) (l .y) (runLeft (a .runs .now) (l .y)) (runRight (a .runs .now) (l .y) - runLeft (a .runs .now) (l .y))) (l .inv .3)
           ∙ points-more (a .w) (a .target .now) (a .canvas .now) (a .runs .now) (a .top) (l .y) (l .inv .0),
     )
@@ -121,7 +124,7 @@ push-rows-spec =
     (tie.spec
     Inv-loop
     μ-loop
-    new-requires
+    no-pairs-requires
     loop-holds
     mul-left
     mul-left-2

@@ -7,6 +7,7 @@ use lib.Count.{trailingZeros}
 use Rattle.sums.specs.declared.ShapeSums.{ShapeSums}
 use Rattle.sums.specs.Sums.{noSums, plus, pixelSums}
 use Rattle.score.specs.Scoring.{pixelFrom}
+use Rattle.score.specs.Paired.{unpairedOf}
 use Rattle.score.specs.StampSums.{stampPoints, StampIn}
 use Rattle.score.specs.StampSumLaws.{Turn, turn, done}
 use Rattle.score.specs.ScoringLaws.{no-count}
@@ -18,19 +19,20 @@ use Rattle.score.proofs.points.push_stamp.Tie as tie
 abbrev Inv-loop : tie.InvT-loop
 Inv-loop bits left top target canvas w s₀ b₀ i₀ s b i =
     (i ≤ 64) × (b < 2 ^ (64 - i)) × (s .count ≤ i) × StampIn w left top (length target) i b
-    × (stampPoints w target canvas left top i b s ≡ stampPoints w target canvas left top 0 bits noSums)
+    × (stampPoints w target canvas left top i b (unpairedOf s) ≡ stampPoints w target canvas left top 0 bits noSums)
 
 abbrev μ-loop : tie.MeasureT-loop
 μ-loop bits left top target canvas w s₀ b₀ i₀ s b i = 64 - i
 
-new-requires : tie.Need-new-requires Inv-loop μ-loop
-new-requires c κs = search needs
+no-pairs-requires : tie.Need-no-pairs-requires Inv-loop μ-loop
+no-pairs-requires c κs = search needs
 
 loop-holds : tie.Need-loop-holds Inv-loop μ-loop
+unfolding unpairedOf
 loop-holds c =
     let g = c .before .before .before in
     let a = g .args in
-    let e = c .new .ensures in (
+    let e = c .no-pairs .ensures in (
       omega arith,
       g .fits .bits .fits,
       omega (arith, ap (λ (q : ShapeSums). q .count) e, no-count),
@@ -42,11 +44,11 @@ module _ (c : tie.In-loop Inv-loop μ-loop) where
   abbrev start : tie.Start Inv-loop μ-loop
   start = c .before .before .before .before .before
 
-  step : let a = start .args in Turn (a .w) (a .target .now) (a .canvas .now) (a .left) (a .top) (length (a .target .now)) (c .before .loop .i) (c .before .loop .b) (trailingZeros 64 (c .before .loop .b)) (c .before .loop .s)
+  step : let a = start .args in Turn (a .w) (a .target .now) (a .canvas .now) (a .left) (a .top) (length (a .target .now)) (c .before .loop .i) (c .before .loop .b) (trailingZeros 64 (c .before .loop .b)) (unpairedOf (c .before .loop .s))
   step =
       let a = start .args in
       let l = c .before .loop in
-      turn (a .w) (a .target .now) (a .canvas .now) (a .left) (a .top) (length (a .target .now)) (l .i) (l .b) (l .s) (l .inv .0) (l .inv .1) (omega (arith, c .loop-test .taken)) (l .inv .3)
+      turn (a .w) (a .target .now) (a .canvas .now) (a .left) (a .top) (length (a .target .now)) (l .i) (l .b) (unpairedOf (l .s)) (l .inv .0) (l .inv .1) (omega (arith, c .loop-test .taken)) (l .inv .3)
 
 cast-j : tie.Need-cast-j Inv-loop μ-loop
 cast-j c = omega (arith, step c .inside)
@@ -96,13 +98,13 @@ loop-less : tie.Need-loop-less Inv-loop μ-loop
 loop-less c = omega (arith, step (c .before .before .before .before) .inside)
 
 loop-again : tie.Need-loop-again Inv-loop μ-loop
-unfolding plus pixelSums
+unfolding plus pixelSums unpairedOf
 loop-again c =
     let i = c .before .before .before .before in
     let t = step i in
     let l = i .before .loop in
     let a = start i .args in
-    let r = c .push-numbers .ensures ∙ ap (λ (k : ℕ). plus (l .s) (pixelFrom (a .target .now) (a .canvas .now) k)) (c .before .before .before .stamp-place .ensures) in (
+    let r = c .push-numbers .ensures ∙ ap (λ (k : ℕ). plus (unpairedOf (l .s)) (pixelFrom (a .target .now) (a .canvas .now) k)) (c .before .before .before .stamp-place .ensures) in (
       omega (arith, t .inside),
       t .less,
       omega (arith, ap (λ (q : ShapeSums). q .count) r, l .inv .2),
@@ -115,7 +117,7 @@ returns-2 c =
     let l = c .before .loop in
     let a = c .before .before .before .before .before .args in
     let z : l .b ≡ 0 = omega (arith, c .loop-test .left) in
-    sym (done (a .w) (a .target .now) (a .canvas .now) (a .left) (a .top) (l .i) (l .s)) ∙ ap (λ (b : ℕ). stampPoints (a .w) (a .target .now) (a .canvas .now) (a .left) (a .top) (l .i) b (l .s)) (sym z) ∙ l .inv .4
+    sym (done (a .w) (a .target .now) (a .canvas .now) (a .left) (a .top) (l .i) (unpairedOf (l .s))) ∙ ap (λ (b : ℕ). stampPoints (a .w) (a .target .now) (a .canvas .now) (a .left) (a .top) (l .i) b (unpairedOf (l .s))) (sym z) ∙ l .inv .4
 
 pub push-stamp-spec : {M : Type 1} → statement M
 push-stamp-spec =
@@ -123,7 +125,7 @@ push-stamp-spec =
     (tie.spec
     Inv-loop
     μ-loop
-    new-requires
+    no-pairs-requires
     loop-holds
     cast-j
     add-j

@@ -6,6 +6,7 @@ use lib.Count.{trailingZeros}
 use Rattle.sums.specs.declared.ShapeSums.{ShapeSums}
 use Rattle.sums.specs.Sums.{plus, pixelSums}
 use Rattle.score.specs.Scoring.{pixelFrom}
+use Rattle.score.specs.Paired.{unpairedOf}
 use Rattle.score.specs.StampSums.{stampPoints, StampIn}
 use Rattle.score.specs.StampSumLaws.{Turn, turn, done}
 use borrow.Author.Needs.{needs}
@@ -16,7 +17,7 @@ use Rattle.score.proofs.points.push_stamp_any.Tie as tie
 abbrev Inv-loop : tie.InvT-loop
 Inv-loop rest from left top target canvas w s₀ b₀ i₀ s b i =
     (i ≤ 64) × (b < 2 ^ (64 - i)) × (s .count ≤ i) × StampIn w left top (length target) i b
-    × (stampPoints w target canvas left top i b s ≡ stampPoints w target canvas left top from rest s₀)
+    × (stampPoints w target canvas left top i b (unpairedOf s) ≡ stampPoints w target canvas left top from rest (unpairedOf s₀))
 
 abbrev μ-loop : tie.MeasureT-loop
 μ-loop rest from left top target canvas w s₀ b₀ i₀ s b i = 64 - i
@@ -28,11 +29,11 @@ module _ (c : tie.In-loop Inv-loop μ-loop) where
   abbrev start : tie.Start Inv-loop μ-loop
   start = c .before .before .before .before
 
-  step : let a = start .args in Turn (a .w) (a .target .now) (a .canvas .now) (a .left) (a .top) (length (a .target .now)) (c .before .loop .i) (c .before .loop .b) (trailingZeros 64 (c .before .loop .b)) (c .before .loop .s)
+  step : let a = start .args in Turn (a .w) (a .target .now) (a .canvas .now) (a .left) (a .top) (length (a .target .now)) (c .before .loop .i) (c .before .loop .b) (trailingZeros 64 (c .before .loop .b)) (unpairedOf (c .before .loop .s))
   step =
       let a = start .args in
       let l = c .before .loop in
-      turn (a .w) (a .target .now) (a .canvas .now) (a .left) (a .top) (length (a .target .now)) (l .i) (l .b) (l .s) (l .inv .0) (l .inv .1) (omega (arith, c .loop-test .taken)) (l .inv .3)
+      turn (a .w) (a .target .now) (a .canvas .now) (a .left) (a .top) (length (a .target .now)) (l .i) (l .b) (unpairedOf (l .s)) (l .inv .0) (l .inv .1) (omega (arith, c .loop-test .taken)) (l .inv .3)
 
 cast-j : tie.Need-cast-j Inv-loop μ-loop
 cast-j c = omega (arith, step c .inside)
@@ -63,12 +64,12 @@ loop-less : tie.Need-loop-less Inv-loop μ-loop
 loop-less c = omega (arith, step (c .before .before) .inside)
 
 loop-again : tie.Need-loop-again Inv-loop μ-loop
-unfolding plus pixelSums
+unfolding plus pixelSums unpairedOf
 loop-again c =
     let t = step (c .before .before) in
     let l = c .before .before .before .loop in
     let a = start (c .before .before) .args in
-    let r = c .push-any .ensures ∙ ap (λ (k : ℕ). plus (l .s) (pixelFrom (a .target .now) (a .canvas .now) k)) (c .before .stamp-place .ensures) in (
+    let r = c .push-any .ensures ∙ ap (λ (k : ℕ). plus (unpairedOf (l .s)) (pixelFrom (a .target .now) (a .canvas .now) k)) (c .before .stamp-place .ensures) in (
       omega (arith, t .inside),
       t .less,
       omega (arith, ap (λ (q : ShapeSums). q .count) r, l .inv .2),
@@ -81,7 +82,7 @@ returns c =
     let l = c .before .loop in
     let a = c .before .before .before .before .args in
     let z : l .b ≡ 0 = omega (arith, c .loop-test .left) in
-    sym (done (a .w) (a .target .now) (a .canvas .now) (a .left) (a .top) (l .i) (l .s)) ∙ ap (λ (b : ℕ). stampPoints (a .w) (a .target .now) (a .canvas .now) (a .left) (a .top) (l .i) b (l .s)) (sym z) ∙ l .inv .4
+    sym (done (a .w) (a .target .now) (a .canvas .now) (a .left) (a .top) (l .i) (unpairedOf (l .s))) ∙ ap (λ (b : ℕ). stampPoints (a .w) (a .target .now) (a .canvas .now) (a .left) (a .top) (l .i) b (unpairedOf (l .s))) (sym z) ∙ l .inv .4
 
 pub push-stamp-any-spec : {M : Type 1} → statement M
 push-stamp-any-spec =

@@ -7,6 +7,7 @@ use native.Mathlib.Nat.{mul-le-mul}
 use Rattle.sums.specs.declared.ShapeSums.{ShapeSums}
 use Rattle.sums.specs.Sums.{plus, pixelSums}
 use Rattle.score.specs.RunSums.{pixelsAdded}
+use Rattle.score.specs.Paired.{unpairedOf}
 use Rattle.score.specs.Scoring.{pixelAt}
 use Rattle.score.specs.ScoringLaws.{pixels-none, pixels-more}
 use borrow.Author.Needs.{needs}
@@ -16,7 +17,7 @@ use Rattle.score.proofs.points.push_tested.Tie as tie
 
 abbrev Inv-loop : tie.InvT-loop
 Inv-loop target canvas w y left right s₀ x₀ s x =
-    (left ≤ x) × (x ≤ right) × (s .count ≡ s₀ .count + (x - left)) × (s ≡ pixelsAdded w target canvas y left (x - left) s₀)
+    (left ≤ x) × (x ≤ right) × (s .count ≡ s₀ .count + (x - left)) × (unpairedOf s ≡ pixelsAdded w target canvas y left (x - left) (unpairedOf s₀))
 
 abbrev μ-loop : tie.MeasureT-loop
 μ-loop target canvas w y left right s₀ x₀ s x = right - x
@@ -25,7 +26,7 @@ abbrev μ-loop : tie.MeasureT-loop
 abbrev Inv-loop2 : tie.InvT-loop2
 Inv-loop2 target canvas w y left right s₀ x₀ s x =
     (left ≤ x₀) × (x₀ ≤ x) × (x ≤ right) × (s .count ≡ s₀ .count + (x - x₀))
-    × ((q : ShapeSums) → s₀ ≡ pixelsAdded w target canvas y left (x₀ - left) q → s ≡ pixelsAdded w target canvas y left (x - left) q)
+    × ((q : ShapeSums) → unpairedOf s₀ ≡ pixelsAdded w target canvas y left (x₀ - left) q → unpairedOf s ≡ pixelsAdded w target canvas y left (x - left) q)
 
 abbrev μ-loop2 : tie.MeasureT-loop2
 μ-loop2 target canvas w y left right s₀ x₀ s x = right - x
@@ -44,8 +45,8 @@ loop-holds c =
       omega arith,
       g .pre .0 .2,
       omega arith,
-      sym (pixels-none (a .w) (a .target .now) (a .canvas .now) (a .y) (a .left) (a .sums))
-          ∙ ap (λ (k : ℕ). pixelsAdded (a .w) (a .target .now) (a .canvas .now) (a .y) (a .left) k (a .sums)) (sym z),
+      sym (pixels-none (a .w) (a .target .now) (a .canvas .now) (a .y) (a .left) (unpairedOf (a .sums)))
+          ∙ ap (λ (k : ℕ). pixelsAdded (a .w) (a .target .now) (a .canvas .now) (a .y) (a .left) k (unpairedOf (a .sums))) (sym z),
     )
 
 module _ (c : tie.In-loop Inv-loop μ-loop Inv-loop2 μ-loop2) where
@@ -100,7 +101,7 @@ loop-less : tie.Need-loop-less Inv-loop μ-loop Inv-loop2 μ-loop2
 loop-less c = omega (arith, c .before .before .before .loop-test .taken)
 
 loop-again : tie.Need-loop-again Inv-loop μ-loop Inv-loop2 μ-loop2
-unfolding plus pixelSums
+unfolding plus pixelSums unpairedOf
 loop-again c =
     let t = c .before .before .before in
     let l = t .before .loop in
@@ -110,7 +111,7 @@ loop-again c =
       omega (arith, t .loop-test .taken),
       omega (arith, ap (λ (q : ShapeSums). q .count) r, l .inv .2, l .inv .0),
       r ∙ ap (λ (q : ShapeSums). plus q (pixelAt (a .w) (a .target .now) (a .canvas .now) (a .y) (l .x))) (l .inv .3)
-          ∙ pixels-more (a .w) (a .target .now) (a .canvas .now) (a .y) (a .left) (l .x) (a .sums) (l .inv .0),
+          ∙ pixels-more (a .w) (a .target .now) (a .canvas .now) (a .y) (a .left) (l .x) (unpairedOf (a .sums)) (l .inv .0),
     )
 
 loop2-holds : tie.Need-loop2-holds Inv-loop μ-loop Inv-loop2 μ-loop2
@@ -156,7 +157,7 @@ loop2-less : tie.Need-loop2-less Inv-loop μ-loop Inv-loop2 μ-loop2
 loop2-less c = omega (arith, c .before .loop2-test .taken)
 
 loop2-again : tie.Need-loop2-again Inv-loop μ-loop Inv-loop2 μ-loop2
-unfolding plus pixelSums
+unfolding plus pixelSums unpairedOf
 loop2-again c =
     let t = c .before in
     let l = t .before .loop2 in
@@ -177,7 +178,7 @@ returns c =
     let f = c .before .before .before in
     let a = f .before .before .before .args in
     let e : l .x ≡ a .right = omega (arith, l .inv .2, c .loop2-test .left) in
-    l .inv .4 (a .sums) (f .loop .inv .3) ∙ ap (λ (x : ℕ). pixelsAdded (a .w) (a .target .now) (a .canvas .now) (a .y) (a .left) (x - a .left) (a .sums)) e
+    l .inv .4 (unpairedOf (a .sums)) (f .loop .inv .3) ∙ ap (λ (x : ℕ). pixelsAdded (a .w) (a .target .now) (a .canvas .now) (a .y) (a .left) (x - a .left) (unpairedOf (a .sums))) e
 
 pub push-tested-spec : {M : Type 1} → statement M
 push-tested-spec =
