@@ -3,10 +3,10 @@
 //! Needs: probe_collect_span_sums probe_collect_circle_sums probe_collect_triangle_sums
 
 use crate::generator::Draw;
-use crate::harness::{no_fixed, unequal, Comparison};
+use crate::harness::{unequal, Comparison};
 use crate::ours::{self, ProbedAnswer, ProbedCollected, ProbedSums};
 use crate::scenes::{asked, draw_scene, with, Asked, Scene};
-use crate::shapes::{draw_shape, every_radius, every_small, i32s, in_domain, pairs};
+use crate::shapes::{draw_shape, every_radius, every_small, every_tiny, i32s, in_domain, pairs};
 use oracle::shape::common::probe::alpha_sweep;
 use oracle::shape::integral::{
     eval_circle_integral_with_sums, eval_quad_integral_with_sums, eval_triangle_integral_with_sums, probe,
@@ -129,6 +129,7 @@ pub fn comparisons() -> Vec<Comparison> {
             cost: 10,
             fixed: |see| {
                 every_small(1, &mut |case| seeded(case, see));
+                every_tiny(1, &mut |case| seeded(case, see));
                 every_radius(&mut |case| seeded(case, see));
             },
             draw: |d, case| draw(d, 1, case),
@@ -139,7 +140,7 @@ pub fn comparisons() -> Vec<Comparison> {
             name: "score: spans of a triangle",
             numbers: TRIANGLE,
             cost: 10,
-            fixed: no_fixed,
+            fixed: |see| every_tiny(2, &mut |case| seeded(case, see)),
             draw: |d, case| draw(d, 2, case),
             allowed,
             differs: |case| differs(case, span),
@@ -148,7 +149,7 @@ pub fn comparisons() -> Vec<Comparison> {
             name: "score: spans of a quad",
             numbers: QUAD,
             cost: 10,
-            fixed: no_fixed,
+            fixed: |see| every_tiny(3, &mut |case| seeded(case, see)),
             draw: |d, case| draw(d, 3, case),
             allowed,
             differs: |case| differs(case, span),
@@ -157,7 +158,10 @@ pub fn comparisons() -> Vec<Comparison> {
             name: "score: points of a circle",
             numbers: CIRCLE,
             cost: 20,
-            fixed: |see| every_small(1, &mut |case| seeded(case, see)),
+            fixed: |see| {
+                every_small(1, &mut |case| seeded(case, see));
+                every_tiny(1, &mut |case| seeded(case, see));
+            },
             draw: |d, case| draw(d, 1, case),
             allowed,
             differs: |case| differs(case, point),
@@ -166,7 +170,7 @@ pub fn comparisons() -> Vec<Comparison> {
             name: "score: points of a triangle",
             numbers: TRIANGLE,
             cost: 20,
-            fixed: no_fixed,
+            fixed: |see| every_tiny(2, &mut |case| seeded(case, see)),
             draw: |d, case| draw(d, 2, case),
             allowed,
             differs: |case| differs(case, point),
