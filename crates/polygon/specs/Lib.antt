@@ -7,6 +7,7 @@ pub mod OneRow
 pub mod Sides
 pub mod Box
 pub mod StepLaws
+pub mod EdgeLaws
 pub mod RowSteps
 pub mod Around
 pub mod FillLaws

@@ -1,14 +1,16 @@
 -- Rules: what the private functions below fill_quad ask and promise.
 use mathlib.Core.Path.{_≡_}
-use mathlib.Core.Bool.{true, cond}
+use mathlib.Core.Bool.{true, false, cond}
 use mathlib.Core.List.{List}
-use Prim.Native.Nat.{ℕ, _+_, _*_, _≤_, _<_}
+use mathlib.Core.Logic.{_↔_}
+use Prim.Native.Nat.{ℕ, _+_, _*_, _/_, _≤_, _<_}
 use lib.Dec.{ltb}
 use lib.ListN.{length, getD}
 use lib.IntN.{ℤ, pos, negsuc, _+ℤ_, _*ℤ_}
-use lib.Signed.{_≤ℤ_, ltZ}
+use lib.Signed.{_≤ℤ_, _<ℤ_, ltZ}
 use Rattle.laws.specs.Bound.{Bounded}
 use Rattle.laws.specs.Ends.{endsOf, leftOf, rightOf}
+use Rattle.polygon.specs.declared.Edge.{Edge}
 use Rattle.polygon.specs.Polygon.{Point, at, side, area2, areaTest, corners, polygonPixel}
 
 -- a point within the coordinate range
@@ -37,6 +39,33 @@ Above a c x = pos 0 ≤ℤ (a *ℤ pos x +ℤ c)
 -- on the inner side of the edge i to j, at a column of the row y
 abbrev pub Inner : ℤ → Point → Point → ℤ → ℕ → Type 0
 Inner sign i j y x = pos 0 ≤ℤ (sign *ℤ side i j (at (pos x) y))
+
+-- at or above 0, on the line that the row moves
+abbrev pub HalfPlane : ℤ → ℤ → ℤ → ℕ → ℕ → Type 0
+HalfPlane a c s y x = Above a (c +ℤ s *ℤ pos y) x
+
+abbrev pub InnerOf : ℤ → Point → Point → ℕ → ℕ → Type 0
+InnerOf sign i j y x = Inner sign i j (pos y) x
+
+-- up to column 256 the columns of a row with the property are those from a quotient on, or those before it: of the edge's number in that
+-- row, by a height. `times` and `most` are what a division by that height needs to know.
+pub record Cuts (R : ℕ → ℕ → Type 0) (e : Edge) : Type 0 where
+  pub height : ℕ
+  pub some : 0 < height
+  pub few : height ≤ 16382
+  pub times : e .times ≡ 137438953472 / height + 1
+  pub most : e .most ≡ height * 257
+  pub start : Bounded 80000000000 (e .start)
+  pub step : Bounded 5000000 (e .step)
+  pub first : e .begins ≡ true → (y x : ℕ) → x < 257 → ((e .start +ℤ e .step *ℤ pos y) <ℤ pos ((x + 1) * height)) ↔ R y x
+  pub last : e .begins ≡ false → (y x : ℕ) → x < 257 → (pos ((x + 1) * height) ≤ℤ (e .start +ℤ e .step *ℤ pos y)) ↔ R y x
+
+-- the edges of four corners, around
+pub record Edges (x0 y0 x1 y1 x2 y2 x3 y3 sign : ℤ) (e0 e1 e2 e3 : Edge) : Type 0 where
+  pub one : Cuts (InnerOf sign (at x0 y0) (at x1 y1)) e0
+  pub two : Cuts (InnerOf sign (at x1 y1) (at x2 y2)) e1
+  pub three : Cuts (InnerOf sign (at x2 y2) (at x3 y3)) e2
+  pub four : Cuts (InnerOf sign (at x3 y3) (at x0 y0)) e3
 
 -- a corner of two lists of coordinates, by place
 abbrev pub corner : List ℤ → List ℤ → ℕ → Point

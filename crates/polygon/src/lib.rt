@@ -22,8 +22,11 @@ ghost use Rattle.polygon.specs.Steps.{
   Placed,
   signOf,
   Kept,
-  Above,
   Inner,
+  HalfPlane,
+  InnerOf,
+  Cuts,
+  Edges,
   Room,
   Rows,
   Closed,
@@ -33,6 +36,17 @@ ghost use Rattle.polygon.specs.Steps.{
 struct Run {
     left: usize,
     right: usize,
+}
+
+// What the rows need to know of an edge. In row y its number is start + step * y, and that number divided by the edge's height, rounded
+// down, is the column where the inner side begins, or the one past its end. `times` stands for the division, up to the number `most`, whose
+// quotient is past all columns.
+struct Edge {
+    start: i64,
+    step: i64,
+    times: usize,
+    most: usize,
+    begins: bool,
 }
 
 // The least and the greatest of a list, as the first and the last row of its corners.
@@ -92,35 +106,50 @@ pub fn extent_of(zs: &[i32]) -> Extent
     }
 }
 
-// Of the columns lo up to hi, those at which a * x + c is not negative.
-// No division where the answer is all of them or none. Elsewhere both numbers are positive: -c / a rounded up is the first column,
-// c / -a rounded down the last.
-fn half_line(a: i32, c: i32, lo: usize, hi: usize) -> Run
+// The columns of row y at which a * x + (c + s * y) is not negative: where a is positive those from a column on, else those up to one.
+// What divides by the height is worked out here, once for all rows. An edge along the rows has all columns of a row or none, and is given a
+// height of 1, with its numbers times 257, so that the quotient is 0 or past all columns.
+fn half_plane(a: i32, c: i32, s: i32) -> Edge
     requires slope { ⌜ Bounded 16382 a ⌝ }
-    requires offset { ⌜ Bounded 1000000000 c ⌝ }
-    ensures { λ r. ⌜ Kept (Above a c) lo hi (r .left) (r .right) × (r .left ≤ max lo hi) ⌝ }
+    requires offset { ⌜ Bounded 300000000 c ⌝ }
+    requires fall { ⌜ Bounded 16382 s ⌝ }
+    ensures { λ e. ⌜ Cuts (HalfPlane a c s) e ⌝ }
 {
-    if c < 0 {
-        if a <= 0 {
-            return Run { left: 0, right: 0 };
-        }
-        let d = a as u32;
-        let first = ((0 - c) as u32 + (d - 1)) / d;
-        return Run {
-            left: whole::max_usize(lo, whole::min_usize(first as usize, hi)),
-            right: hi,
+    let offset = c as i64;
+    let fall = s as i64;
+    if a == 0 {
+        let start = (offset + 1) * 257;
+        let step = fall * 257;
+        return Edge {
+            start: start,
+            step: step,
+            times: 137438953473,
+            most: 257,
+            begins: false,
         };
     }
-    if a >= 0 {
-        return Run {
-            left: lo,
-            right: hi,
+    let slope = a as i64;
+    let height = whole::abs_i32(a) as usize;
+    let times = 137438953472 / height + 1;
+    let most = height * 257;
+    if a < 0 {
+        let start = offset - slope;
+        return Edge {
+            start: start,
+            step: fall,
+            times: times,
+            most: most,
+            begins: false,
         };
     }
-    let last = c as u32 / (0 - a) as u32;
-    Run {
-        left: lo,
-        right: whole::min_usize(last as usize + 1, hi),
+    let start = slope - 1 - offset;
+    let step = 0 - fall;
+    Edge {
+        start: start,
+        step: step,
+        times: times,
+        most: most,
+        begins: true,
     }
 }
 
@@ -148,25 +177,52 @@ fn closed(left: usize, right: usize) -> Run
     }
 }
 
-// Of the columns lo up to hi of row y, those on the inner side of the edge from i to j.
-fn cut_row(xi: i32, yi: i32, xj: i32, yj: i32, sign: i32, y: usize, lo: usize, hi: usize) -> Run
+// The edge from i to j, its inner side by the sign.
+fn edge_of(xi: i32, yi: i32, xj: i32, yj: i32, sign: i32) -> Edge
     requires from { ⌜ Placed (at xi yi) ⌝ }
     requires to { ⌜ Placed (at xj yj) ⌝ }
     requires sign { ⌜ Bounded 1 sign ⌝ }
-    requires row { ⌜ y < 256 ⌝ }
-    ensures { λ r. ⌜ Kept (Inner sign (at xi yi) (at xj yj) (pos y)) lo hi (r .left) (r .right) ⌝ }
+    ensures { λ e. ⌜ Cuts (InnerOf sign (at xi yi) (at xj yj)) e ⌝ }
 {
     let base = (yj - yi) * xi - (xj - xi) * yi;
-    half_line(
-        sign * (yi - yj),
-        sign * base + sign * (xj - xi) * (y as i32),
-        lo,
-        hi,
-    )
+    half_plane(sign * (yi - yj), sign * base, sign * (xj - xi))
 }
 
-// The run of a row from its corners alone. What is an edge's own is the same in every row: in a loop the compiler works it out before.
-// The edge that a triangle has not stands last, and the test for it is the same in every row too: a triangle's loop has three edges.
+// Of the columns lo up to hi of row y, those on the inner side of the edge from i to j. The corners are there for the contract alone.
+// Without a division: the product with `times`, shifted, is the quotient.
+fn cut_row(
+    xi: i32,
+    yi: i32,
+    xj: i32,
+    yj: i32,
+    sign: i32,
+    e: Edge,
+    y: usize,
+    lo: usize,
+    hi: usize,
+) -> Run
+    requires edge { ⌜ Cuts (InnerOf sign (at xi yi) (at xj yj)) e ⌝ }
+    requires row { ⌜ y < 256 ⌝ }
+    requires columns { ⌜ hi ≤ 256 ⌝ }
+    ensures { λ r. ⌜ Kept (Inner sign (at xi yi) (at xj yj) (pos y)) lo hi (r .left) (r .right) ⌝ }
+{
+    let reached = e.start + e.step * y as i64;
+    let number = whole::clamp_i64(reached, e.most);
+    let column = number * e.times / 137438953472;
+    if e.begins {
+        return Run {
+            left: whole::max_usize(lo, column),
+            right: hi,
+        };
+    }
+    Run {
+        left: lo,
+        right: whole::min_usize(column, hi),
+    }
+}
+
+// The run of a row. The edge that a triangle has not stands last, and the test for it is the same in every row: a triangle's loop has
+// three edges.
 fn quad_row(
     x0: i32,
     y0: i32,
@@ -177,21 +233,26 @@ fn quad_row(
     x3: i32,
     y3: i32,
     sign: i32,
+    e0: Edge,
+    e1: Edge,
+    e2: Edge,
+    e3: Edge,
     w: usize,
     y: usize,
 ) -> Run
-    requires corners { ⌜ InRange (four x0 x1 x2 x3) (four y0 y1 y2 y3) ⌝ }
     requires sign { ⌜ Signed (four x0 x1 x2 x3) (four y0 y1 y2 y3) sign ⌝ }
+    requires edges { ⌜ Edges x0 y0 x1 y1 x2 y2 x3 y3 sign e0 e1 e2 e3 ⌝ }
+    requires columns { ⌜ w ≤ 256 ⌝ }
     requires row { ⌜ y < 256 ⌝ }
     ensures { λ r. ⌜ RowRun (four x0 x1 x2 x3) (four y0 y1 y2 y3) w y (r .left) (r .right) × (r .left ≤ w) × (r .right ≤ w) ⌝ }
 {
-    let a = cut_row(x0, y0, x1, y1, sign, y, 0, w);
-    let b = cut_row(x1, y1, x2, y2, sign, y, a.left, a.right);
-    let c = cut_row(x3, y3, x0, y0, sign, y, b.left, b.right);
+    let a = cut_row(x0, y0, x1, y1, sign, e0, y, 0, w);
+    let b = cut_row(x1, y1, x2, y2, sign, e1, y, a.left, a.right);
+    let c = cut_row(x3, y3, x0, y0, sign, e3, y, b.left, b.right);
     if (x2 == x3) & (y2 == y3) {
         return closed(c.left, c.right);
     }
-    let d = cut_row(x2, y2, x3, y3, sign, y, c.left, c.right);
+    let d = cut_row(x2, y2, x3, y3, sign, e2, y, c.left, c.right);
     closed(d.left, d.right)
 }
 
@@ -205,20 +266,24 @@ fn quad_rows(
     x3: i32,
     y3: i32,
     sign: i32,
+    e0: Edge,
+    e1: Edge,
+    e2: Edge,
+    e3: Edge,
     w: usize,
     first: usize,
     past: usize,
     out: &mut [u16; 512],
 )
-    requires corners { ⌜ InRange (four x0 x1 x2 x3) (four y0 y1 y2 y3) ⌝ }
     requires sign { ⌜ Signed (four x0 x1 x2 x3) (four y0 y1 y2 y3) sign ⌝ }
+    requires edges { ⌜ Edges x0 y0 x1 y1 x2 y2 x3 y3 sign e0 e1 e2 e3 ⌝ }
     requires columns { ⌜ w ≤ 256 ⌝ }
     requires rows { ⌜ past ≤ 256 ⌝ }
     requires places { ⌜ Room (now out) ⌝ }
     ensures { λ _. ⌜ Rows (Done (four x0 x1 x2 x3) (four y0 y1 y2 y3) w) first past (now (out .entry)) (now (out .exit)) ⌝ }
 {
     for y in first..past {
-        let run = quad_row(x0, y0, x1, y1, x2, y2, x3, y3, sign, w, y);
+        let run = quad_row(x0, y0, x1, y1, x2, y2, x3, y3, sign, e0, e1, e2, e3, w, y);
         put_row(y, run.left, run.right, out);
     }
 }
@@ -261,6 +326,11 @@ pub fn fill_quad(
     }
     let first = whole::clamp_i64(lowest(y0, y1, y2, y3) as i64, h);
     let past = whole::clamp_i64(highest(y0, y1, y2, y3) as i64 + 1, h);
+    let sign = sign_of(turn);
+    let e0 = edge_of(x0, y0, x1, y1, sign);
+    let e1 = edge_of(x1, y1, x2, y2, sign);
+    let e2 = edge_of(x2, y2, x3, y3, sign);
+    let e3 = edge_of(x3, y3, x0, y0, sign);
     quad_rows(
         x0,
         y0,
@@ -270,7 +340,11 @@ pub fn fill_quad(
         y2,
         x3,
         y3,
-        sign_of(turn),
+        sign,
+        e0,
+        e1,
+        e2,
+        e3,
         w,
         first,
         past,

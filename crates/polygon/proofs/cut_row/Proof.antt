@@ -1,119 +1,102 @@
--- `polygon::cut_row` meets its contract: along a row the edge is a half line, and down the rows its offset is a line.
+-- `polygon::cut_row` meets its contract: the product and the shift are the quotient, and that is the edge's column.
 use native.Mathlib.Omega.{arith}
 use borrow.Author.Needs.{needs}
-use lib.IntN.{pos}
-use mir.Syntax.{w32}
-use Rattle.laws.specs.Bounds.{Some, some, arg, ld, ldw, unsigned, is+, is-, is*, fits+, fits-, fits*}
+use mathlib.Core.Path.{_≡_, _∙_, ap, subst}
+use Prim.Native.Nat.{ℕ, _+_, _*_, _/_, _≤_}
+use native.Mathlib.Nat.{mul-le-mul, div-le-self}
+use lib.IntN.{ℤ, pos, _+ℤ_, _*ℤ_}
+use mir.Syntax.{w64}
+use Rattle.laws.specs.Bounds.{Some, some, ldw, unsigned, is+, is*, fits+, fits*}
+use Rattle.whole.specs.Whole.{ClampI64Says}
+use Rattle.whole.specs.WholeLaws.{clamp-is}
 use Rattle.polygon.specs.Polygon.{at}
-use Rattle.polygon.specs.StepLaws.{kept-inner}
+use Rattle.polygon.specs.Steps.{Cuts, InnerOf}
+use Rattle.polygon.specs.EdgeLaws.{reciprocal, keeps-from, keeps-to}
 use Rattle.polygon.proofs.cut_row.Statement.{statement}
 use Rattle.polygon.proofs.cut_row.Tie as tie
 
--- the differences, the two products and theirs
-abbrev dx : tie.Start → Some
-dx s = some (is- w32 tt (ldw w32 tt (s .pre .1 .0 .x)) (ldw w32 tt (s .pre .0 .x)))
-
-abbrev dy : tie.Start → Some
-dy s = some (is- w32 tt (ldw w32 tt (s .pre .1 .0 .y)) (ldw w32 tt (s .pre .0 .y)))
-
-abbrev up : tie.Start → Some
-up s = some (is- w32 tt (ldw w32 tt (s .pre .0 .y)) (ldw w32 tt (s .pre .1 .0 .y)))
-
-abbrev left : tie.Start → Some
-left s = some (is* w32 tt (dy s .is) (ldw w32 tt (s .pre .0 .x)))
-
-abbrev right : tie.Start → Some
-right s = some (is* w32 tt (dx s .is) (ldw w32 tt (s .pre .0 .y)))
-
-abbrev base : tie.Start → Some
-base s = some (is- w32 tt (left s .is) (right s .is))
-
--- the three numbers, by the winding
-abbrev slope : tie.Start → Some
-slope s = some (is* w32 tt (ld (s .fits .sign) (s .pre .1 .1 .0)) (up s .is))
-
-abbrev offset : tie.Start → Some
-offset s = some (is* w32 tt (ld (s .fits .sign) (s .pre .1 .1 .0)) (base s .is))
-
-abbrev step : tie.Start → Some
-step s = some (is* w32 tt (ld (s .fits .sign) (s .pre .1 .1 .0)) (dx s .is))
-
--- what is added in row y, and its sum
+-- the edge's number in the row
 abbrev row : tie.Start → Some
-row s = some (unsigned w32 (s .args .y) 255 (omega (arith, s .pre .1 .1 .1)) tt)
+row s = some (unsigned w64 (s .args .y) 255 (omega (arith, s .pre .1 .0)) tt)
 
 abbrev fall : tie.Start → Some
-fall s = some (is* w32 tt (step s .is) (row s .is))
+fall s = some (is* w64 tt (ldw w64 tt (s .pre .0 .step)) (row s .is))
 
-abbrev total : tie.Start → Some
-total s = some (is+ w32 tt (offset s .is) (fall s .is))
+abbrev reached : tie.Start → Some
+reached s = some (is+ w64 tt (ldw w64 tt (s .pre .0 .start)) (fall s .is))
 
-sub-base : tie.Need-sub-base
-sub-base c = fits- tt (ldw w32 tt (c .pre .1 .0 .y)) (ldw w32 tt (c .pre .0 .y))
+cast-reached : tie.Need-cast-reached
+cast-reached c = search needs
 
-mul-base : tie.Need-mul-base
-mul-base c = fits* tt (dy c .is) (ldw w32 tt (c .pre .0 .x))
+mul-reached : tie.Need-mul-reached
+mul-reached c = let s = c .before .before in fits* tt (ldw w64 tt (s .pre .0 .step)) (row s .is)
 
-sub-base-2 : tie.Need-sub-base-2
-sub-base-2 c = fits- tt (ldw w32 tt (c .pre .1 .0 .x)) (ldw w32 tt (c .pre .0 .x))
+add-reached : tie.Need-add-reached
+add-reached c = let s = c .before .before .before .before in fits+ tt (ldw w64 tt (s .pre .0 .start)) (fall s .is)
 
-mul-base-2 : tie.Need-mul-base-2
-mul-base-2 c = fits* tt (dx c .is) (ldw w32 tt (c .pre .0 .y))
+clamp-i64-requires : tie.Need-clamp-i64-requires
+clamp-i64-requires c κs = search needs
 
-sub-base-3 : tie.Need-sub-base-3
-sub-base-3 c = fits- tt (left c .is) (right c .is)
+-- what the clamped number and the product are
+module _ (d : tie.After-clamp-i64) where
+  abbrev start : tie.Start
+  start = d .before .before .before .before .before
 
-sub-half-line : tie.Need-sub-half-line
-sub-half-line c = fits- tt (ldw w32 tt (c .pre .0 .y)) (ldw w32 tt (c .pre .1 .0 .y))
+  abbrev cuts : Cuts (InnerOf (start .args .sign) (at (start .args .xi) (start .args .yi)) (at (start .args .xj) (start .args .yj))) (start .args .e)
+  cuts = start .pre .0
 
-mul-half-line : tie.Need-mul-half-line
-mul-half-line c = fits* tt (ld (c .fits .sign) (c .pre .1 .1 .0)) (up c .is)
+  abbrev number : ℤ
+  number = start .args .e .start +ℤ start .args .e .step *ℤ pos (start .args .y)
 
-mul-half-line-2 : tie.Need-mul-half-line-2
-mul-half-line-2 c = fits* tt (ld (c .fits .sign) (c .pre .1 .1 .0)) (base c .is)
+  held : ClampI64Says number (cuts .height * 257) (d .clamp-i64 .result)
+  held =
+      subst (λ (m : ℕ). ClampI64Says number m (d .clamp-i64 .result)) (cuts .most)
+      (subst (λ (z : ℤ). ClampI64Says z (start .args .e .most) (d .clamp-i64 .result)) (reached start .is .is) (d .clamp-i64 .ensures))
 
-sub-half-line-2 : tie.Need-sub-half-line-2
-sub-half-line-2 c = fits- tt (ldw w32 tt (c .pre .1 .0 .x)) (ldw w32 tt (c .pre .0 .x))
+  most : d .clamp-i64 .result ≤ cuts .height * 257
+  most = clamp-is number (cuts .height * 257) (d .clamp-i64 .result) held .0
 
-mul-half-line-3 : tie.Need-mul-half-line-3
-mul-half-line-3 c = fits* tt (ld (c .fits .sign) (c .pre .1 .1 .0)) (dx c .is)
+  column-is : (d .clamp-i64 .result * start .args .e .times) / 137438953472 ≡ d .clamp-i64 .result / cuts .height
+  column-is =
+      ap (λ (t : ℕ). (d .clamp-i64 .result * t) / 137438953472) (cuts .times)
+      ∙ reciprocal (d .clamp-i64 .result) (cuts .height) (cuts .some) (cuts .few) most
 
-cast-half-line : tie.Need-cast-half-line
-cast-half-line c = search needs
+  small : d .clamp-i64 .result * start .args .e .times ≤ 4210174 * 137438953473
+  small = mul-le-mul {n₂ = 4210174} {m₂ = 137438953473} (omega (arith, most, cuts .few)) (omega (arith, cuts .times, div-le-self 137438953472 (cuts .height)))
 
-mul-half-line-4 : tie.Need-mul-half-line-4
-mul-half-line-4 c = fits* tt (step c .is) (row c .is)
+mul-column : tie.Need-mul-column
+mul-column c = record { fits = omega (arith, small (c .before)) }
 
-add-half-line : tie.Need-add-half-line
-add-half-line c = fits+ tt (offset c .is) (fall c .is)
-
-half-line-requires : tie.Need-half-line-requires
-half-line-requires c κs = (arg tt (slope c .is), arg tt (total c .is))
+max-usize-requires : tie.Need-max-usize-requires
+max-usize-requires c κs = search needs
 
 returns : tie.Need-returns
 returns c =
-    let s = c .before in
-    let i = at (s .args .xi) (s .args .yi) in
-    let j = at (s .args .xj) (s .args .yj) in
-    kept-inner (s .args .sign) i j (s .args .y) (s .args .lo) (s .args .hi) (c .half-line .result .left) (c .half-line .result .right)
-    (rw (slope s .is .is, total s .is .is) at (c .half-line .ensures .0))
+    let d = c .before .before .before in
+    let s = start d in
+    rw (c .max-usize .ensures, column-is d)
+    (keeps-from _ (number d) (cuts d .height) (d .clamp-i64 .result) (s .args .lo) (s .args .hi) (cuts d .some) (held d) (s .pre .1 .1) (cuts d .first (c .before .if1 .taken) (s .args .y)))
+
+min-usize-requires : tie.Need-min-usize-requires
+min-usize-requires c κs = search needs
+
+returns-2 : tie.Need-returns-2
+returns-2 c =
+    let d = c .before .before .before in
+    let s = start d in
+    rw (c .min-usize .ensures, column-is d)
+    (keeps-to _ (number d) (cuts d .height) (d .clamp-i64 .result) (s .args .lo) (s .args .hi) (cuts d .some) (held d) (s .pre .1 .1) (cuts d .last (c .before .if1 .left) (s .args .y)))
 
 pub cut-row-spec : {M : Type 1} → statement M
 cut-row-spec =
     tie.close
     (tie.spec
-    sub-base
-    mul-base
-    sub-base-2
-    mul-base-2
-    sub-base-3
-    sub-half-line
-    mul-half-line
-    mul-half-line-2
-    sub-half-line-2
-    mul-half-line-3
-    cast-half-line
-    mul-half-line-4
-    add-half-line
-    half-line-requires
-    returns)
+    cast-reached
+    mul-reached
+    add-reached
+    clamp-i64-requires
+    mul-column
+    max-usize-requires
+    returns
+    min-usize-requires
+    returns-2)

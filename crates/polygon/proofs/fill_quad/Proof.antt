@@ -2,20 +2,22 @@
 use borrow.Author.Needs.{needs, sfits-of}
 use mathlib.Core.Path.{_≡_, _∙_, sym, ap, subst}
 use mathlib.Core.List.{List}
-use Prim.Native.Nat.{_≤_}
+use Prim.Native.Nat.{ℕ, _≤_}
 use native.Mathlib.Omega.{arith}
 use lib.IntN.{ℤ, pos, _+ℤ_}
+use lib.ListN.{getD}
 use mir.Syntax.{w32, w64}
 use mir.Val.{toZ, ofZ}
 use mir.Facts.{toZ-ofZ}
 use Rattle.laws.specs.Fit.{bits-zero, bits-nonzero, read}
+use Rattle.laws.specs.Bound.{Bounded}
 use Rattle.laws.specs.Bounds.{Is, ldr, lit, cast, is+, fits-as, fits+, weq, wfits}
 use Rattle.whole.specs.Whole.{ClampI64Says}
 use Rattle.whole.specs.WholeLaws.{clamp-is}
-use Rattle.polygon.specs.Polygon.{at, side, leastOf, greatestOf}
-use Rattle.polygon.specs.Steps.{Room, Signed, signOf}
+use Rattle.polygon.specs.Polygon.{at, side, area2, corners, leastOf, greatestOf}
+use Rattle.polygon.specs.Steps.{Placed, Room, Signed, Edges, signOf}
 use Rattle.polygon.specs.OneRow.{four}
-use Rattle.polygon.specs.StepLaws.{least-bounded, greatest-bounded, corner-placed}
+use Rattle.polygon.specs.StepLaws.{sign-bounded, least-bounded, greatest-bounded, corner-placed}
 use Rattle.polygon.specs.FillLaws.{some-area, no-area-none, blank-room, fill-done}
 use Rattle.polygon.proofs.fill_quad.Statement.{statement}
 use Rattle.polygon.proofs.fill_quad.Tie as tie
@@ -113,16 +115,53 @@ signed c =
       is = read w32 (c .sign-of .result) (c .sign-of .ok) ∙ c .sign-of .ensures ∙ ap signOf area-is;
     }
 
+-- ---- the edges
+turned : (c : tie.After-sign-of) → Bounded 1 (toZ w32 (ofZ w32 (c .sign-of .result)))
+turned c = let s = start (c .before) in weq (signed c .is) (sign-bounded (area2 (corners (xs s) (ys s))))
+
+module _ (c : tie.After-sign-of) (i j : ℕ) where
+  ends : let s = start (c .before) in Placed (at (toZ w32 (ofZ w32 (getD (xs s) i (pos 0)))) (toZ w32 (ofZ w32 (getD (ys s) i (pos 0))))) × (Placed (at (toZ w32 (ofZ w32 (getD (xs s) j (pos 0)))) (toZ w32 (ofZ w32 (getD (ys s) j (pos 0))))) × Bounded 1 (toZ w32 (ofZ w32 (c .sign-of .result))))
+  ends = let s = start (c .before) in let p = corner-placed (xs s) (ys s) (s .pre .0) in (p i, (p j, turned c))
+
+edge-of-requires : tie.Need-edge-of-requires
+edge-of-requires c κs = ends c 0 1
+
+edge-of-requires-2 : tie.Need-edge-of-requires-2
+edge-of-requires-2 c κs = ends (c .before) 1 2
+
+edge-of-requires-3 : tie.Need-edge-of-requires-3
+edge-of-requires-3 c κs = ends (c .before .before) 2 3
+
+edge-of-requires-4 : tie.Need-edge-of-requires-4
+edge-of-requires-4 c κs = ends (c .before .before .before) 3 0
+
+module _ (c : tie.After-edge-of4) where
+  abbrev turn : tie.After-sign-of
+  turn = c .before .before .before .before
+
+  abbrev outset : tie.Start
+  outset = start (turn .before)
+
+  edges : let s = outset .args in Edges (s .x0) (s .y0) (s .x1) (s .y1) (s .x2) (s .y2) (s .x3) (s .y3) (toZ w32 (ofZ w32 (turn .sign-of .result)))
+      (c .before .before .before .edge-of .result) (c .before .before .edge-of2 .result) (c .before .edge-of3 .result) (c .edge-of4 .result)
+  edges =
+      let s = outset .fits in record {
+        one = rw (toZ-ofZ (s .x0), toZ-ofZ (s .y0), toZ-ofZ (s .x1), toZ-ofZ (s .y1)) at (c .before .before .before .edge-of .ensures);
+        two = rw (toZ-ofZ (s .x1), toZ-ofZ (s .y1), toZ-ofZ (s .x2), toZ-ofZ (s .y2)) at (c .before .before .edge-of2 .ensures);
+        three = rw (toZ-ofZ (s .x2), toZ-ofZ (s .y2), toZ-ofZ (s .x3), toZ-ofZ (s .y3)) at (c .before .edge-of3 .ensures);
+        four = rw (toZ-ofZ (s .x3), toZ-ofZ (s .y3), toZ-ofZ (s .x0), toZ-ofZ (s .y0)) at (c .edge-of4 .ensures);
+      }
+
 quad-rows-requires : tie.Need-quad-rows-requires
 quad-rows-requires c κs =
-    let g = c .before in
+    let g = turn (c .before) in
     let d = g .before in
     let s = start d in
-    rw (toZ-ofZ (s .fits .x0), toZ-ofZ (s .fits .y0), toZ-ofZ (s .fits .x1), toZ-ofZ (s .fits .y1), toZ-ofZ (s .fits .x2), toZ-ofZ (s .fits .y2), toZ-ofZ (s .fits .x3), toZ-ofZ (s .fits .y3)) (s .pre .0, (signed g, (s .pre .1 .0 .w-high, (past-most d, subst Room (sym (s .pre .1 .1)) blank-room))))
+    rw (toZ-ofZ (s .fits .x0), toZ-ofZ (s .fits .y0), toZ-ofZ (s .fits .x1), toZ-ofZ (s .fits .y1), toZ-ofZ (s .fits .x2), toZ-ofZ (s .fits .y2), toZ-ofZ (s .fits .x3), toZ-ofZ (s .fits .y3)) (signed g, (edges (c .before), (s .pre .1 .0 .w-high, (past-most d, subst Room (sym (s .pre .1 .1)) blank-room))))
 
 returns-2 : tie.Need-returns-2
 returns-2 c =
-    let g = c .before .before in
+    let g = turn (c .before .before) in
     let d = g .before in
     let s = start d in
     fill-done (xs s) (ys s) (s .pre .0 .same) (s .args .w) (s .args .h) (d .before .before .clamp-i64 .result) (d .clamp-i642 .result) _
@@ -142,5 +181,9 @@ fill-quad-spec =
     add-clamp-i64
     clamp-i64-requires-2
     sign-of-requires
+    edge-of-requires
+    edge-of-requires-2
+    edge-of-requires-3
+    edge-of-requires-4
     quad-rows-requires
     returns-2)

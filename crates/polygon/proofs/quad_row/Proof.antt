@@ -1,18 +1,13 @@
 -- `polygon::quad_row` meets its contract: the columns that are left after four edges, or after three where the third is none.
 use borrow.Author.Needs.{needs}
+use native.Mathlib.Omega.{arith}
 use mathlib.Core.Path.{subst}
 use mathlib.Core.List.{List}
 use Prim.Native.Nat.{ℕ, _≤_}
 use lib.IntN.{ℤ, pos}
-use lib.ListN.{getD}
-use mir.Syntax.{w32}
-use mir.Val.{toZ, ofZ}
 use mir.Facts.{toZ-ofZ}
-use Rattle.laws.specs.Bound.{Bounded}
-use Rattle.laws.specs.Bounds.{arg, ld, weq}
-use Rattle.polygon.specs.Polygon.{Point, at, area2, corners}
-use Rattle.polygon.specs.Steps.{Placed, Kept, Inner, Closed, RowRun}
-use Rattle.polygon.specs.StepLaws.{sign-bounded, corner-placed}
+use Rattle.polygon.specs.Polygon.{Point, at}
+use Rattle.polygon.specs.Steps.{Kept, Inner, Closed, RowRun}
 use Rattle.polygon.specs.OneRow.{four}
 use Rattle.polygon.specs.OneRowLaws.{one-corner, four-edges, no-edge}
 use Rattle.polygon.proofs.quad_row.Statement.{statement}
@@ -25,20 +20,21 @@ module _ (s : tie.Start) where
   abbrev ys : List ℤ
   ys = four (s .args .y0) (s .args .y1) (s .args .y2) (s .args .y3)
 
-  placed : (i : ℕ) → Placed (at (toZ w32 (ofZ w32 (getD xs i (pos 0)))) (toZ w32 (ofZ w32 (getD ys i (pos 0)))))
-  placed i = corner-placed xs ys (s .pre .0) i
-
-  turned : Bounded 1 (toZ w32 (ofZ w32 (s .args .sign)))
-  turned = arg tt (ld (s .fits .sign) (weq (s .pre .1 .0 .is) (sign-bounded (area2 (corners xs ys)))))
-
 cut-row-requires : tie.Need-cut-row-requires
-cut-row-requires c κs = let s = c in (placed s 0, (placed s 1, (turned s, s .pre .1 .1)))
+cut-row-requires s κs =
+    simp (toZ-ofZ, s .fits .x0, s .fits .y0, s .fits .x1, s .fits .y1, s .fits .sign) (s .pre .1 .0 .one, (s .pre .1 .1 .1, s .pre .1 .1 .0))
 
 cut-row-requires-2 : tie.Need-cut-row-requires-2
-cut-row-requires-2 c κs = let s = c .before in (placed s 1, (placed s 2, (turned s, s .pre .1 .1)))
+cut-row-requires-2 c κs =
+    let s = c .before in
+    simp (toZ-ofZ, s .fits .x1, s .fits .y1, s .fits .x2, s .fits .y2, s .fits .sign)
+    (s .pre .1 .0 .two, (s .pre .1 .1 .1, omega (arith, c .cut-row .ensures .within, s .pre .1 .1 .0)))
 
 cut-row-requires-3 : tie.Need-cut-row-requires-3
-cut-row-requires-3 c κs = let s = c .before .before in (placed s 3, (placed s 0, (turned s, s .pre .1 .1)))
+cut-row-requires-3 c κs =
+    let s = c .before .before in
+    simp (toZ-ofZ, s .fits .x3, s .fits .y3, s .fits .x0, s .fits .y0, s .fits .sign)
+    (s .pre .1 .0 .four, (s .pre .1 .1 .1, omega (arith, c .cut-row2 .ensures .within, c .before .cut-row .ensures .within, s .pre .1 .1 .0)))
 
 -- after three edges, the one that may be none
 module _ (e : tie.After-cut-row3) where
@@ -52,7 +48,7 @@ module _ (e : tie.After-cut-row3) where
       let a = b .before in
       let s = start in
       let g = s .args in
-      four-edges (g .x0) (g .y0) (g .x1) (g .y1) (g .x2) (g .y2) (g .x3) (g .y3) (g .sign) (s .pre .1 .0) (g .w) (g .y) _ _ _ _ _ _ i j left right
+      four-edges (g .x0) (g .y0) (g .x1) (g .y1) (g .x2) (g .y2) (g .x3) (g .y3) (g .sign) (s .pre .0) (g .w) (g .y) _ _ _ _ _ _ i j left right
       (simp (toZ-ofZ, s .fits .x0, s .fits .y0, s .fits .x1, s .fits .y1, s .fits .sign) at (a .cut-row .ensures))
       (simp (toZ-ofZ, s .fits .x1, s .fits .y1, s .fits .x2, s .fits .y2, s .fits .sign) at (b .cut-row2 .ensures))
       (simp (toZ-ofZ, s .fits .x3, s .fits .y3, s .fits .x0, s .fits .y0, s .fits .sign) at (e .cut-row3 .ensures))
@@ -73,7 +69,11 @@ returns c =
     (c .closed .ensures)
 
 cut-row-requires-4 : tie.Need-cut-row-requires-4
-cut-row-requires-4 c κs = let s = c .before .before .before .before in (placed s 2, (placed s 3, (turned s, s .pre .1 .1)))
+cut-row-requires-4 c κs =
+    let e = c .before in
+    let s = start e in
+    simp (toZ-ofZ, s .fits .x2, s .fits .y2, s .fits .x3, s .fits .y3, s .fits .sign)
+    (s .pre .1 .0 .three, (s .pre .1 .1 .1, omega (arith, e .cut-row3 .ensures .within, e .before .cut-row2 .ensures .within, e .before .before .cut-row .ensures .within, s .pre .1 .1 .0)))
 
 closed-requires-2 : tie.Need-closed-requires-2
 closed-requires-2 c κs = search needs

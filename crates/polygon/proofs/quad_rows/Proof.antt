@@ -12,11 +12,11 @@ use Rattle.polygon.proofs.quad_rows.Statement.{statement}
 use Rattle.polygon.proofs.quad_rows.Tie as tie
 
 abbrev Inv-loop : tie.InvT-loop
-Inv-loop x0 y0 x1 y1 x2 y2 x3 y3 sign w first past out₀ y₀ out y =
+Inv-loop x0 y0 x1 y1 x2 y2 x3 y3 sign e0 e1 e2 e3 w first past out₀ y₀ out y =
     (first ≤ y) × (y ≤ max first past) × Rows (Done (four (toZ w32 x0) (toZ w32 x1) (toZ w32 x2) (toZ w32 x3)) (four (toZ w32 y0) (toZ w32 y1) (toZ w32 y2) (toZ w32 y3)) w) first y out₀ out
 
 abbrev μ-loop : tie.MeasureT-loop
-μ-loop x0 y0 x1 y1 x2 y2 x3 y3 sign w first past out₀ y₀ out y = past - y
+μ-loop x0 y0 x1 y1 x2 y2 x3 y3 sign e0 e1 e2 e3 w first past out₀ y₀ out y = past - y
 
 loop-holds : tie.Need-loop-holds Inv-loop μ-loop
 loop-holds c = (omega arith, omega arith, rows-none _ (c .args .first) (c .args .out .now) (c .pre .1 .1 .1 .1))
@@ -24,7 +24,7 @@ loop-holds c = (omega arith, omega arith, rows-none _ (c .args .first) (c .args 
 quad-row-requires : tie.Need-quad-row-requires Inv-loop μ-loop
 quad-row-requires c κs =
     let s = c .before .before in
-    rw (toZ-ofZ (s .fits .x0), toZ-ofZ (s .fits .y0), toZ-ofZ (s .fits .x1), toZ-ofZ (s .fits .y1), toZ-ofZ (s .fits .x2), toZ-ofZ (s .fits .y2), toZ-ofZ (s .fits .x3), toZ-ofZ (s .fits .y3), toZ-ofZ (s .fits .sign)) (s .pre .0, (s .pre .1 .0, omega (arith, c .loop-test .taken, s .pre .1 .1 .1 .0)))
+    rw (toZ-ofZ (s .fits .x0), toZ-ofZ (s .fits .y0), toZ-ofZ (s .fits .x1), toZ-ofZ (s .fits .y1), toZ-ofZ (s .fits .x2), toZ-ofZ (s .fits .y2), toZ-ofZ (s .fits .x3), toZ-ofZ (s .fits .y3), toZ-ofZ (s .fits .sign)) (s .pre .0, (s .pre .1 .0, (s .pre .1 .1 .0, omega (arith, c .loop-test .taken, s .pre .1 .1 .1 .0))))
 
 small : (c : tie.After-quad-row Inv-loop μ-loop) → (c .quad-row .result .left < 65536) × (c .quad-row .result .right < 65536)
 small c =
