@@ -47,6 +47,12 @@ line s i j p = ring (s ∷ i .px ∷ i .py ∷ j .px ∷ j .py ∷ p .px ∷ p .
     (x 0 ⊠ ((x 3 ⊟ x 1) ⊠ (x 6 ⊟ x 2) ⊟ (x 4 ⊟ x 2) ⊠ (x 5 ⊟ x 1)))
     ((x 0 ⊠ (x 2 ⊟ x 4)) ⊠ x 5 ⊞ (x 0 ⊠ ((x 4 ⊟ x 2) ⊠ x 1 ⊟ (x 3 ⊟ x 1) ⊠ x 2) ⊞ (x 0 ⊠ (x 3 ⊟ x 1)) ⊠ x 6)) tt
 
+-- the same, from corner i on
+pub line-from : (s : ℤ) (i j p : Point) → s *ℤ side i j p ≡ (s *ℤ (i .py -ℤ j .py)) *ℤ (p .px -ℤ i .px) +ℤ (s *ℤ (j .px -ℤ i .px)) *ℤ (p .py -ℤ i .py)
+line-from s i j p = ring (s ∷ i .px ∷ i .py ∷ j .px ∷ j .py ∷ p .px ∷ p .py ∷ [])
+    (x 0 ⊠ ((x 3 ⊟ x 1) ⊠ (x 6 ⊟ x 2) ⊟ (x 4 ⊟ x 2) ⊠ (x 5 ⊟ x 1)))
+    ((x 0 ⊠ (x 2 ⊟ x 4)) ⊠ (x 5 ⊟ x 1) ⊞ (x 0 ⊠ (x 3 ⊟ x 1)) ⊠ (x 6 ⊟ x 2)) tt
+
 -- from a corner to itself there is no side
 pub no-side : (s : ℤ) (i p : Point) → s *ℤ side i i p ≡ pos 0
 no-side s i p =

@@ -3,10 +3,10 @@ use mathlib.Core.Path.{_≡_}
 use mathlib.Core.Bool.{true, false, cond}
 use mathlib.Core.List.{List}
 use mathlib.Core.Logic.{_↔_}
-use Prim.Native.Nat.{ℕ, _+_, _*_, _/_, _≤_, _<_}
+use Prim.Native.Nat.{ℕ, zero, suc, _+_, _*_, _/_, _^_, _≤_, _<_}
 use lib.Dec.{ltb}
 use lib.ListN.{length, getD}
-use lib.IntN.{ℤ, pos, negsuc, _+ℤ_, _*ℤ_}
+use lib.IntN.{ℤ, pos, negsuc, _+ℤ_, _-ℤ_, _*ℤ_}
 use lib.Signed.{_≤ℤ_, _<ℤ_, ltZ}
 use Rattle.laws.specs.Bound.{Bounded}
 use Rattle.laws.specs.Ends.{endsOf, leftOf, rightOf}
@@ -44,19 +44,36 @@ Inner sign i j y x = pos 0 ≤ℤ (sign *ℤ side i j (at (pos x) y))
 abbrev pub HalfPlane : ℤ → ℤ → ℤ → ℕ → ℕ → Type 0
 HalfPlane a c s y x = Above a (c +ℤ s *ℤ pos y) x
 
+-- on one side of row yi, or anywhere
+abbrev pub Level : ℤ → ℤ → ℕ → ℕ → Type 0
+Level s yi y x = pos 0 ≤ℤ (s *ℤ (pos y -ℤ yi))
+
 abbrev pub InnerOf : ℤ → Point → Point → ℕ → ℕ → Type 0
 InnerOf sign i j y x = Inner sign i j (pos y) x
 
+-- -1, 0 or 1
+abbrev pub turnOf : ℤ → ℤ
+turnOf (pos zero) = pos 0
+turnOf (pos (suc n)) = pos 1
+turnOf (negsuc n) = negsuc 0
+
+-- so many binary digits stand for the quotient's fraction
+abbrev pub digitsOf : ℕ → ℕ
+digitsOf height = cond (ltb height 64) 31 37
+
 -- up to column 256 the columns of a row with the property are those from a quotient on, or those before it: of the edge's number in that
--- row, by a height. `times` and `most` are what a division by that height needs to know.
+-- row, by a height. `times`, `digits` and `most` are what a division by that height needs to know.
 pub record Cuts (R : ℕ → ℕ → Type 0) (e : Edge) : Type 0 where
   pub height : ℕ
   pub some : 0 < height
   pub few : height ≤ 16382
-  pub times : e .times ≡ 137438953472 / height + 1
+  pub digits : e .digits ≤ 37
+  pub exact : 258 * (height * height) ≤ 2 ^ (e .digits)
+  pub times : e .times ≡ 2 ^ (e .digits) / height + 1
+  pub slim : e .times < 4294967296
   pub most : e .most ≡ height * 257
-  pub start : Bounded 80000000000 (e .start)
-  pub step : Bounded 5000000 (e .step)
+  pub start : Bounded 310000000 (e .start)
+  pub step : Bounded 16382 (e .step)
   pub first : e .begins ≡ true → (y x : ℕ) → x < 257 → ((e .start +ℤ e .step *ℤ pos y) <ℤ pos ((x + 1) * height)) ↔ R y x
   pub last : e .begins ≡ false → (y x : ℕ) → x < 257 → (pos ((x + 1) * height) ≤ℤ (e .start +ℤ e .step *ℤ pos y)) ↔ R y x
 

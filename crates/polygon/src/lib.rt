@@ -1,12 +1,15 @@
 // The runs of a polygon's rows: document 01's triangles and quads. The rule is one over the number of corners; the code has four.
 // A row is the intersection of its edges' half planes, as in integral.rs, and is written once.
 ghost use mathlib.Core.Path.{_≡_};
-ghost use Prim.Native.Nat.{_<_, _≤_, _+_, _*_, max};
+ghost use mathlib.Core.Bool.{cond};
+ghost use Prim.Native.Nat.{_<_, _≤_, _+_, _*_, _^_, min, max};
 ghost use lib.IntN.{pos, _-ℤ_};
+ghost use lib.Signed.{ltZ};
 ghost use lib.ListN.{set};
 ghost use Rattle.laws.specs.Blank.{Blank};
 ghost use Rattle.laws.specs.Bound.{Bounded};
 ghost use Rattle.refusal.specs.Refusals.{Sized};
+ghost use Rattle.whole.specs.Whole.{greater, ClampI64Says};
 ghost use Rattle.polygon.specs.Polygon.{
   at,
   side,
@@ -24,7 +27,10 @@ ghost use Rattle.polygon.specs.Steps.{
   Kept,
   Inner,
   HalfPlane,
+  Level,
   InnerOf,
+  digitsOf,
+  turnOf,
   Cuts,
   Edges,
   Room,
@@ -32,20 +38,21 @@ ghost use Rattle.polygon.specs.Steps.{
   Closed,
 };
 
-// The columns from left up to right, without right.
+// The columns from left up to right, without right. Numbers of 32 bits, here and in an edge: the compiler works out four rows at a time.
 struct Run {
-    left: usize,
-    right: usize,
+    left: u32,
+    right: u32,
 }
 
 // What the rows need to know of an edge. In row y its number is start + step * y, and that number divided by the edge's height, rounded
-// down, is the column where the inner side begins, or the one past its end. `times` stands for the division, up to the number `most`, whose
-// quotient is past all columns.
+// down, is the column where the inner side begins, or the one past its end. A product with `times`, less its last `digits`, stands for the
+// division, up to the number `most`, whose quotient is past all columns.
 struct Edge {
-    start: i64,
-    step: i64,
-    times: usize,
-    most: usize,
+    start: i32,
+    step: i32,
+    times: u32,
+    most: u32,
+    digits: u32,
     begins: bool,
 }
 
@@ -106,55 +113,139 @@ pub fn extent_of(zs: &[i32]) -> Extent
     }
 }
 
-// The columns of row y at which a * x + (c + s * y) is not negative: where a is positive those from a column on, else those up to one.
-// What divides by the height is worked out here, once for all rows. An edge along the rows has all columns of a row or none, and is given a
-// height of 1, with its numbers times 257, so that the quotient is 0 or past all columns.
-fn half_plane(a: i32, c: i32, s: i32) -> Edge
+fn larger(a: u32, b: u32) -> u32
+    ensures { λ r. ⌜ r ≡ max a b ⌝ }
+{
+    if a < b {
+        return b;
+    }
+    a
+}
+
+fn smaller(a: u32, b: u32) -> u32
+    ensures { λ r. ⌜ r ≡ min a b ⌝ }
+{
+    if a < b {
+        return a;
+    }
+    b
+}
+
+fn above_0(t: i32) -> u32
+    ensures { λ r. ⌜ pos r ≡ greater t (pos 0) ⌝ }
+{
+    if t < 0 {
+        return 0;
+    }
+    t as u32
+}
+
+// t, brought into 0..most.
+fn brought(t: i32, most: u32) -> u32
+    ensures { λ r. ⌜ ClampI64Says t most r ⌝ }
+{
+    smaller(above_0(t), most)
+}
+
+// 2^31 or 2^37, by the height: so `times` has 32 digits at most, and the quotient is exact.
+fn digits_of(height: u32) -> u32
+    ensures { λ r. ⌜ r ≡ digitsOf height ⌝ }
+{
+    if height < 64 {
+        return 31;
+    }
+    37
+}
+
+fn power_of(height: u32) -> u64
+    ensures { λ r. ⌜ r ≡ 2 ^ digitsOf height ⌝ }
+{
+    if height < 64 {
+        return 2147483648;
+    }
+    137438953472
+}
+
+// The edge's number in row 0.
+fn start_of(a: i32, c: i32) -> i32
+    requires { ⌜ Bounded 16382 a × Bounded 300000000 c ⌝ }
+    ensures { λ r. ⌜ r ≡ cond (ltZ (pos 0) a) (a -ℤ pos 1 -ℤ c) (c -ℤ a) ⌝ }
+{
+    let g = a - c;
+    if 0 < a {
+        return g - 1;
+    }
+    0 - g
+}
+
+// What it grows by from row to row.
+fn step_of(a: i32, s: i32) -> i32
+    requires { ⌜ Bounded 16382 s ⌝ }
+    ensures { λ r. ⌜ r ≡ cond (ltZ (pos 0) a) (pos 0 -ℤ s) s ⌝ }
+{
+    if 0 < a {
+        return 0 - s;
+    }
+    s
+}
+
+// The columns of row y at which a * x + (c + s * y) is not negative: where a is positive those from a column on, where it is negative
+// those up to one. The one division of an edge is here.
+fn sloped_edge(a: i32, c: i32, s: i32) -> Edge
+    requires some { ⌜ (a ≡ pos 0 → ⊥) ⌝ }
     requires slope { ⌜ Bounded 16382 a ⌝ }
     requires offset { ⌜ Bounded 300000000 c ⌝ }
     requires fall { ⌜ Bounded 16382 s ⌝ }
     ensures { λ e. ⌜ Cuts (HalfPlane a c s) e ⌝ }
 {
-    let offset = c as i64;
-    let fall = s as i64;
-    if a == 0 {
-        let start = (offset + 1) * 257;
-        let step = fall * 257;
-        return Edge {
-            start: start,
-            step: step,
-            times: 137438953473,
-            most: 257,
-            begins: false,
-        };
-    }
-    let slope = a as i64;
-    let height = whole::abs_i32(a) as usize;
-    let times = 137438953472 / height + 1;
+    let height = whole::abs_i32(a);
+    let digits = digits_of(height);
+    let times = (power_of(height) / height as u64 + 1) as u32;
     let most = height * 257;
-    if a < 0 {
-        let start = offset - slope;
-        return Edge {
-            start: start,
-            step: fall,
-            times: times,
-            most: most,
-            begins: false,
-        };
-    }
-    let start = slope - 1 - offset;
-    let step = 0 - fall;
+    let start = start_of(a, c);
+    let step = step_of(a, s);
     Edge {
         start: start,
         step: step,
         times: times,
         most: most,
-        begins: true,
+        digits: digits,
+        begins: 0 < a,
+    }
+}
+
+fn turn_of(s: i32) -> i32
+    ensures { λ r. ⌜ r ≡ turnOf s ⌝ }
+{
+    if s < 0 {
+        return -1;
+    }
+    if 0 < s {
+        return 1;
+    }
+    0
+}
+
+// An edge along row yi keeps the rows on one side of it, all columns or none: a height of 1, and numbers of which 257 are a row.
+fn level_edge(s: i32, yi: i32) -> Edge
+    requires { ⌜ Bounded 8191 yi ⌝ }
+    ensures { λ e. ⌜ Cuts (Level s yi) e ⌝ }
+{
+    let turn = turn_of(s);
+    let start = (1 - turn * yi) * 257;
+    let step = turn * 257;
+    Edge {
+        start: start,
+        step: step,
+        times: 2147483649,
+        most: 257,
+        digits: 31,
+        begins: false,
     }
 }
 
 // Writes row y's run, two places a row.
-fn put_row(y: usize, left: usize, right: usize, out: &mut [u16; 512])
+fn put_row(y: usize, left: u32, right: u32, out: &mut [u16; 512])
     requires row { ⌜ y < 256 ⌝ }
     requires ends { ⌜ (left < 65536) × (right < 65536) ⌝ }
     ensures { λ _. ⌜ now (out .exit) ≡ set (set (now (out .entry)) (y * 2) left) (y * 2 + 1) right ⌝ }
@@ -165,7 +256,7 @@ fn put_row(y: usize, left: usize, right: usize, out: &mut [u16; 512])
 }
 
 // A row of which no column is left is 0, 0.
-fn closed(left: usize, right: usize) -> Run
+fn closed(left: u32, right: u32) -> Run
     ensures { λ r. ⌜ Closed left right (r .left) (r .right) ⌝ }
 {
     if right <= left {
@@ -184,12 +275,16 @@ fn edge_of(xi: i32, yi: i32, xj: i32, yj: i32, sign: i32) -> Edge
     requires sign { ⌜ Bounded 1 sign ⌝ }
     ensures { λ e. ⌜ Cuts (InnerOf sign (at xi yi) (at xj yj)) e ⌝ }
 {
+    let slope = sign * (yi - yj);
+    let fall = sign * (xj - xi);
+    if slope == 0 {
+        return level_edge(fall, yi);
+    }
     let base = (yj - yi) * xi - (xj - xi) * yi;
-    half_plane(sign * (yi - yj), sign * base, sign * (xj - xi))
+    sloped_edge(slope, sign * base, fall)
 }
 
 // Of the columns lo up to hi of row y, those on the inner side of the edge from i to j. The corners are there for the contract alone.
-// Without a division: the product with `times`, shifted, is the quotient.
 fn cut_row(
     xi: i32,
     yi: i32,
@@ -198,26 +293,26 @@ fn cut_row(
     sign: i32,
     e: Edge,
     y: usize,
-    lo: usize,
-    hi: usize,
+    lo: u32,
+    hi: u32,
 ) -> Run
     requires edge { ⌜ Cuts (InnerOf sign (at xi yi) (at xj yj)) e ⌝ }
     requires row { ⌜ y < 256 ⌝ }
     requires columns { ⌜ hi ≤ 256 ⌝ }
     ensures { λ r. ⌜ Kept (Inner sign (at xi yi) (at xj yj) (pos y)) lo hi (r .left) (r .right) ⌝ }
 {
-    let reached = e.start + e.step * y as i64;
-    let number = whole::clamp_i64(reached, e.most);
-    let column = number * e.times / 137438953472;
+    let reached = e.start + e.step * y as i32;
+    let number = brought(reached, e.most);
+    let column = ((number as u64 * e.times as u64) >> e.digits) as u32;
     if e.begins {
         return Run {
-            left: whole::max_usize(lo, column),
+            left: larger(lo, column),
             right: hi,
         };
     }
     Run {
         left: lo,
-        right: whole::min_usize(column, hi),
+        right: smaller(column, hi),
     }
 }
 
@@ -246,7 +341,7 @@ fn quad_row(
     requires row { ⌜ y < 256 ⌝ }
     ensures { λ r. ⌜ RowRun (four x0 x1 x2 x3) (four y0 y1 y2 y3) w y (r .left) (r .right) × (r .left ≤ w) × (r .right ≤ w) ⌝ }
 {
-    let a = cut_row(x0, y0, x1, y1, sign, e0, y, 0, w);
+    let a = cut_row(x0, y0, x1, y1, sign, e0, y, 0, w as u32);
     let b = cut_row(x1, y1, x2, y2, sign, e1, y, a.left, a.right);
     let c = cut_row(x3, y3, x0, y0, sign, e3, y, b.left, b.right);
     if (x2 == x3) & (y2 == y3) {

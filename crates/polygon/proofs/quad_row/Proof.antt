@@ -20,6 +20,9 @@ module _ (s : tie.Start) where
   abbrev ys : List ℤ
   ys = four (s .args .y0) (s .args .y1) (s .args .y2) (s .args .y3)
 
+cast-cut-row : tie.Need-cast-cut-row
+cast-cut-row c = record { fits = omega (arith, c .pre .1 .1 .0) }
+
 cut-row-requires : tie.Need-cut-row-requires
 cut-row-requires s κs =
     simp (toZ-ofZ, s .fits .x0, s .fits .y0, s .fits .x1, s .fits .y1, s .fits .sign) (s .pre .1 .0 .one, (s .pre .1 .1 .1, s .pre .1 .1 .0))
@@ -89,6 +92,7 @@ pub quad-row-spec : {M : Type 1} → statement M
 quad-row-spec =
     tie.close
     (tie.spec
+    cast-cut-row
     cut-row-requires
     cut-row-requires-2
     cut-row-requires-3
