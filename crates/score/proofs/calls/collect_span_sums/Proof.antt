@@ -98,8 +98,11 @@ returns-3 d =
 tested-span-sums-requires : tie.Need-tested-span-sums-requires
 tested-span-sums-requires c κs = search needs
 
+apart-requires : tie.Need-apart-requires
+apart-requires c κs = search needs
+
 returns-4 : tie.Need-returns-4
-returns-4 c = c .tested-span-sums .ensures
+returns-4 c = c .apart .ensures ∙ c .before .tested-span-sums .ensures
 
 pub collect-span-sums-spec : {M : Type 1} → statement M
 collect-span-sums-spec =
@@ -117,4 +120,5 @@ collect-span-sums-spec =
     reached-sums-requires
     returns-3
     tested-span-sums-requires
+    apart-requires
     returns-4)

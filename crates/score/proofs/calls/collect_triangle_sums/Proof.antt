@@ -109,8 +109,11 @@ returns-3 d =
 tested-point-sums-requires : tie.Need-tested-point-sums-requires
 tested-point-sums-requires c κs = search needs
 
+apart-requires : tie.Need-apart-requires
+apart-requires c κs = search needs
+
 returns-4 : tie.Need-returns-4
-returns-4 c = let z = c .before .before .before .before .before in simp (toZ-ofZ, z .fits .x0, z .fits .y0, z .fits .x1, z .fits .y1, z .fits .x2, z .fits .y2) at (c .tested-point-sums .ensures)
+returns-4 c = let z = c .before .before .before .before .before .before in simp (toZ-ofZ, z .fits .x0, z .fits .y0, z .fits .x1, z .fits .y1, z .fits .x2, z .fits .y2) at (c .apart .ensures ∙ c .before .tested-point-sums .ensures)
 
 pub collect-triangle-sums-spec : {M : Type 1} → statement M
 collect-triangle-sums-spec =
@@ -129,4 +132,5 @@ collect-triangle-sums-spec =
     reached-sums-requires
     returns-3
     tested-point-sums-requires
+    apart-requires
     returns-4)
