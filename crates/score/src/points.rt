@@ -26,11 +26,11 @@ pub(crate) struct Paired {
     cc1: f64,
     tc0: f64,
     tc1: f64,
+    tc2: f64,
+    cc2: f64,
     t2: f64,
     c2: f64,
     tt2: f64,
-    tc2: f64,
-    cc2: f64,
     count: u32,
 }
 
@@ -48,11 +48,11 @@ fn no_pairs() -> Paired
         cc1: 0.0,
         tc0: 0.0,
         tc1: 0.0,
+        tc2: 0.0,
+        cc2: 0.0,
         t2: 0.0,
         c2: 0.0,
         tt2: 0.0,
-        tc2: 0.0,
-        cc2: 0.0,
         count: 0,
     }
 }
@@ -73,11 +73,11 @@ fn push_pair(s: Paired, tr: f64, tg: f64, tb: f64, cr: f64, cg: f64, cb: f64) ->
         cc1: s.cc1 + cg * cg,
         tc0: s.tc0 + tr * cr,
         tc1: s.tc1 + tg * cg,
+        tc2: s.tc2 + tb * cb,
+        cc2: s.cc2 + cb * cb,
         t2: s.t2 + tb,
         c2: s.c2 + cb,
         tt2: s.tt2 + tb * tb,
-        tc2: s.tc2 + tb * cb,
-        cc2: s.cc2 + cb * cb,
         count: s.count + 1,
     }
 }
