@@ -13,8 +13,8 @@ ghost use Rattle.score.specs.Paired.{unpairedOf};
 use cover::Kind;
 use sums::ShapeSums;
 
-// The sums in the order that the compiler pairs well: it adds the first two channels of a pixel side by side in one register, and the third
-// by itself.
+// The sums in the order that the compiler pairs well: it adds the first two channels of a pixel side by side in one register, and of the third
+// those that have a factor of the canvas, and the two pictures' own.
 pub(crate) struct Paired {
     t0: f64,
     t1: f64,
