@@ -7,3 +7,4 @@ pub mod ScoringLaws
 pub mod StampSumLaws
 pub mod CallLaws
 pub mod CountLaws
+pub mod AskLaws

@@ -1,13 +1,13 @@
 -- `score::calls::triangle_point_score` meets its contract: as for spans, of this kind, once each number that is read back from its bits is the number itself.
-use mathlib.Core.Path.{_≡_, sym, _∙_}
-use Prim.Native.Nat.{_≤_, _<_}
+use mathlib.Core.Path.{_∙_}
 use native.Mathlib.Omega.{arith}
-use lib.ListN.{length}
+use mir.Syntax.{w32}
+use mir.Val.{toZ, ofZ}
 use mir.Facts.{toZ-ofZ}
-use Rattle.refusal.specs.Refusals.{Sized}
-use Rattle.score.specs.ScoringLaws.{some-reached}
-use Rattle.score.specs.CallLaws.{picture-lengths, usual-rows, point-nothing, point-told}
-use Rattle.score.specs.StampSumLaws.{near, stamp-in, stamp-is-points}
+use Rattle.cover.specs.declared.Kind.the-variants.{Triangle}
+use Rattle.score.specs.CallLaws.{usual-rows, point-nothing, point-told}
+use Rattle.score.specs.AskLaws.{PointsAsked, points-asked}
+use Rattle.score.specs.StampSumLaws.{stamp-is-points}
 use borrow.Author.Needs.{needs}
 use Rattle.score.proofs.calls.triangle_point_score.Statement.{statement}
 use Rattle.score.proofs.calls.triangle_point_score.Tie as tie
@@ -40,42 +40,26 @@ module _ (c : tie.Else2) where
   abbrev start : tie.Start
   start = c .before .before .before .before .before .before .before .before
 
-  sizes : let a = start .args in Sized (a .w) (a .h)
-  sizes = let a = start .args in usual-rows _ _ _ (a .w) (a .h) (c .before .before .before .usual-pictures .ensures (c .before .before .if1 .taken) .0) .0
-
-  some : c .before .reach-rows .result .top < c .before .reach-rows .result .bottom
-  some = omega (arith, c .if2 .left)
+  asked : let a = start .args in PointsAsked (Triangle (toZ w32 (ofZ w32 (a .x0))) (toZ w32 (ofZ w32 (a .y0))) (toZ w32 (ofZ w32 (a .x1))) (toZ w32 (ofZ w32 (a .y1))) (toZ w32 (ofZ w32 (a .x2))) (toZ w32 (ofZ w32 (a .y2)))) (a .w) (a .h) (a .target .now) (a .canvas .now) (c .before .reach-rows .result)
+  asked =
+      let a = start .args in
+      let r = c .before .reach-rows in
+      points-asked _ (a .w) (a .h) (a .target .now) (a .canvas .now) (c .before .before .before .usual-pictures .ensures (c .before .before .if1 .taken)) (r .result) (r .ensures) (omega (arith, c .if2 .left))
 
 first-column-requires : tie.Need-first-column-requires
-first-column-requires c κs = let a = start c .args in (sizes c .w-high, usual-rows _ _ _ (a .w) (a .h) ((c .before .before .before .usual-pictures .ensures (c .before .before .if1 .taken)) .0) .1)
+first-column-requires c κs = asked c .column
 
 sub-if3 : tie.Need-sub-if3
-sub-if3 c = omega (arith, some (c .before))
-
-close : (c : tie.Then3) → (c .before .first-column .result ≤ 255) × (c .before .before .before .reach-rows .result .top ≤ 255)
-close c =
-    let e = c .before .before in
-    let a = start e .args in
-    let r = e .before .reach-rows in
-    near _ (a .w) (a .h) (sizes e) (r .result) (r .ensures) (some e) (c .before .first-column .result) (c .if3 .taken)
+sub-if3 c = omega (arith, c .before .if2 .left)
 
 stamp-of-requires : tie.Need-stamp-of-requires
-stamp-of-requires c κs =
-    let e = c .before .before in
-    let a = start e .args in
-    (sizes e, (usual-rows _ _ _ (a .w) (a .h) ((e .before .before .before .usual-pictures .ensures (e .before .before .if1 .taken)) .0) .1, close c))
+stamp-of-requires c κs = asked (c .before .before) .stamp _ (c .if3 .taken)
 
 push-stamp-requires : tie.Need-push-stamp-requires
 push-stamp-requires c κs =
     let s = c .before in
     let u = s .before in
-    let e = u .before .before in
-    let a = start e .args in
-    let f = (e .before .before .before .usual-pictures .ensures (e .before .before .if1 .taken)) in
-    let g = s .stamp-of .ensures (λ q. omega (arith, c .if4 .taken, q)) in
-    let k = close u in
-    let l = (picture-lengths (a .w) (a .h) (length (a .target .now)) (length (a .canvas .now)) (f .1)) in
-    ((omega (arith, k .0), omega (arith, k .1), sizes e .w-high), (l .1 ∙ sym (l .0), stamp-in _ _ _ (a .w) (a .h) _ g (length (a .target .now)) (l .0)))
+    asked (u .before .before) .added _ _ (u .if3 .taken) (s .stamp-of .ensures (λ q. omega (arith, c .if4 .taken, q)))
 
 unpaired-requires : tie.Need-unpaired-requires
 unpaired-requires c κs = search needs
@@ -103,12 +87,7 @@ returns-2 c =
     (d .unpaired .result) (m .finalize .result) (c .done .result) (d .unpaired .ensures ∙ v .push-stamp .ensures ∙ stamp-is-points _ _ _ (a .w) (a .h) _ (s .stamp-of .ensures (λ q. omega (arith, p .if4 .taken, q))) (a .target .now) (a .canvas .now)) (m .finalize .ensures) (c .done .ensures))
 
 reached-sums-requires : tie.Need-reached-sums-requires
-reached-sums-requires c κs =
-    let e = c .before .before in
-    let a = start e .args in
-    let f = (e .before .before .before .usual-pictures .ensures (e .before .before .if1 .taken)) in
-    let r = e .before .reach-rows in
-    (sizes e, (usual-rows _ _ _ (a .w) (a .h) (f .0) .1, (picture-lengths (a .w) (a .h) (length (a .target .now)) (length (a .canvas .now)) (f .1), some-reached _ (a .w) (a .h) (r .result) (r .ensures) (some e))))
+reached-sums-requires c κs = asked (c .before .before) .reached
 
 finalize-requires-2 : tie.Need-finalize-requires-2
 finalize-requires-2 c κs = search needs
