@@ -4,6 +4,8 @@ use Prim.Native.Nat.{ℕ, _+_}
 use lib.IntN.{ℤ, pos}
 use lib.Signed.{_≤ℤ_, _<ℤ_}
 use Rattle.cover.specs.declared.reached.Rows.{Rows}
+use Rattle.polygon.specs.Polygon.{leastOf, greatestOf}
+use Rattle.polygon.specs.OneRow.{four}
 use Rattle.stamp.specs.Stamp.{stampOf}
 use Rattle.stamp.specs.Digits.{InWindow}
 use Rattle.cover.specs.declared.Kind.{Kind}
@@ -28,3 +30,8 @@ pub record Among (first last : ℤ) (from n : ℕ) : Type 0 where
   pub low : pos from ≤ℤ first
   pub high : last ≤ℤ pos (from + 7)
   pub inside : last <ℤ pos n
+
+-- four corners lie among eight columns from left on and eight rows from top on, in the picture
+pub record Framed (x0 y0 x1 y1 x2 y2 x3 y3 : ℤ) (left top w h : ℕ) : Type 0 where
+  pub columns : Among (leastOf (four x0 x1 x2 x3)) (greatestOf (four x0 x1 x2 x3)) left w
+  pub rows : Among (leastOf (four y0 y1 y2 y3)) (greatestOf (four y0 y1 y2 y3)) top h

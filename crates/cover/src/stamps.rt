@@ -6,9 +6,9 @@ ghost use lib.IntN.{pos, _+ℤ_, _-ℤ_};
 ghost use lib.Signed.{_<ℤ_};
 ghost use Rattle.laws.specs.Bound.{Bounded};
 ghost use Rattle.refusal.specs.Refusals.{Sized};
-ghost use Rattle.cover.specs.declared.Kind.the-variants.{Circle, Quad};
+ghost use Rattle.cover.specs.declared.Kind.the-variants.{Circle, Triangle, Quad};
 ghost use Rattle.cover.specs.Cover.{badPlaces};
-ghost use Rattle.cover.specs.Stamps.{StampSays, FirstColumnSays, Among};
+ghost use Rattle.cover.specs.Stamps.{StampSays, FirstColumnSays, Among, Framed};
 use crate::Kind;
 use crate::reached::rows_of;
 use crate::reached::turned;
@@ -44,9 +44,10 @@ fn begins(c: i32, r: i32, from: usize, n: usize) -> bool
 }
 
 // A circle of radius 1, 2 or 3 that lies in the picture. Its first column and row are those of the stamp.
-fn circle_stamp(cx: i32, cy: i32, r: i32, left: usize, top: usize, w: usize, h: usize) -> u64
-    requires circle { ⌜ Bounded 8191 cx × Bounded 8191 cy × Bounded 8191 r ⌝ }
-    requires window { ⌜ (left ≤ 255) × (top ≤ 255) × (w ≤ 256) × (h ≤ 256) ⌝ }
+pub fn circle_stamp(cx: i32, cy: i32, r: i32, left: usize, top: usize, w: usize, h: usize) -> u64
+    requires sizes { ⌜ Sized w h ⌝ }
+    requires places { ⌜ badPlaces (Circle cx cy r) ≡ false ⌝ }
+    requires window { ⌜ (left ≤ 255) × (top ≤ 255) ⌝ }
     ensures { λ s. ⌜ StampSays (Circle cx cy r) left top w h s ⌝ }
 {
     if (1 <= r) & (r <= 3) & begins(cx, r, left, w) & begins(cy, r, top, h) {
@@ -55,8 +56,35 @@ fn circle_stamp(cx: i32, cy: i32, r: i32, left: usize, top: usize, w: usize, h: 
     0
 }
 
-// Four corners that lie in the picture, among eight columns and eight rows.
-fn polygon_stamp(
+// Four corners lie in the picture, among eight columns and eight rows.
+fn framed(
+    x0: i32,
+    y0: i32,
+    x1: i32,
+    y1: i32,
+    x2: i32,
+    y2: i32,
+    x3: i32,
+    y3: i32,
+    left: usize,
+    top: usize,
+    w: usize,
+    h: usize,
+) -> bool
+    requires corners { ⌜ Bounded 8191 x0 × Bounded 8191 y0 × Bounded 8191 x1 × Bounded 8191 y1 × Bounded 8191 x2 × Bounded 8191 y2 × Bounded 8191 x3 × Bounded 8191 y3 ⌝ }
+    requires window { ⌜ (left ≤ 255) × (top ≤ 255) × (w ≤ 256) × (h ≤ 256) ⌝ }
+    ensures { λ r. ⌜ (r ≡ true → Framed x0 y0 x1 y1 x2 y2 x3 y3 left top w h) ⌝ }
+{
+    let xs = [x0, x1, x2, x3];
+    let ys = [y0, y1, y2, y3];
+    let columns = polygon::extent_of(&xs);
+    let rows = polygon::extent_of(&ys);
+    among(columns.least, columns.greatest, left, w) & among(rows.least, rows.greatest, top, h)
+}
+
+// The stamp of such corners. It has two callers, so that the compiler keeps it apart and writes out the tests before it in the calls, which
+// know the ends of the corners already.
+fn framed_stamp(
     x0: i32,
     y0: i32,
     x1: i32,
@@ -71,26 +99,70 @@ fn polygon_stamp(
     h: usize,
 ) -> u64
     requires corners { ⌜ Bounded 8191 x0 × Bounded 8191 y0 × Bounded 8191 x1 × Bounded 8191 y1 × Bounded 8191 x2 × Bounded 8191 y2 × Bounded 8191 x3 × Bounded 8191 y3 ⌝ }
-    requires window { ⌜ (left ≤ 255) × (top ≤ 255) × (w ≤ 256) × (h ≤ 256) ⌝ }
+    requires window { ⌜ (left ≤ 255) × (top ≤ 255) ⌝ }
+    requires places { ⌜ Framed x0 y0 x1 y1 x2 y2 x3 y3 left top w h ⌝ }
     ensures { λ s. ⌜ StampSays (Quad x0 y0 x1 y1 x2 y2 x3 y3) left top w h s ⌝ }
 {
-    let xs = [x0, x1, x2, x3];
-    let ys = [y0, y1, y2, y3];
-    let columns = polygon::extent_of(&xs);
-    let rows = polygon::extent_of(&ys);
-    if among(columns.least, columns.greatest, left, w) & among(rows.least, rows.greatest, top, h) {
-        let x = left as i32;
-        let y = top as i32;
-        return stamp::polygon_stamp(
-            x0 - x,
-            y0 - y,
-            x1 - x,
-            y1 - y,
-            x2 - x,
-            y2 - y,
-            x3 - x,
-            y3 - y,
-        );
+    let x = left as i32;
+    let y = top as i32;
+    stamp::polygon_stamp(
+        x0 - x,
+        y0 - y,
+        x1 - x,
+        y1 - y,
+        x2 - x,
+        y2 - y,
+        x3 - x,
+        y3 - y,
+    )
+}
+
+// A triangle that lies in the picture: from a corner to itself there is no edge.
+pub fn triangle_stamp(
+    x0: i32,
+    y0: i32,
+    x1: i32,
+    y1: i32,
+    x2: i32,
+    y2: i32,
+    left: usize,
+    top: usize,
+    w: usize,
+    h: usize,
+) -> u64
+    requires sizes { ⌜ Sized w h ⌝ }
+    requires places { ⌜ badPlaces (Triangle x0 y0 x1 y1 x2 y2) ≡ false ⌝ }
+    requires window { ⌜ (left ≤ 255) × (top ≤ 255) ⌝ }
+    ensures { λ s. ⌜ StampSays (Triangle x0 y0 x1 y1 x2 y2) left top w h s ⌝ }
+{
+    if framed(x0, y0, x1, y1, x2, y2, x2, y2, left, top, w, h) {
+        return framed_stamp(x0, y0, x1, y1, x2, y2, x2, y2, left, top, w, h);
+    }
+    0
+}
+
+// A quad that lies in the picture.
+fn quad_stamp(
+    x0: i32,
+    y0: i32,
+    x1: i32,
+    y1: i32,
+    x2: i32,
+    y2: i32,
+    x3: i32,
+    y3: i32,
+    left: usize,
+    top: usize,
+    w: usize,
+    h: usize,
+) -> u64
+    requires sizes { ⌜ Sized w h ⌝ }
+    requires places { ⌜ badPlaces (Quad x0 y0 x1 y1 x2 y2 x3 y3) ≡ false ⌝ }
+    requires window { ⌜ (left ≤ 255) × (top ≤ 255) ⌝ }
+    ensures { λ s. ⌜ StampSays (Quad x0 y0 x1 y1 x2 y2 x3 y3) left top w h s ⌝ }
+{
+    if framed(x0, y0, x1, y1, x2, y2, x3, y3, left, top, w, h) {
+        return framed_stamp(x0, y0, x1, y1, x2, y2, x3, y3, left, top, w, h);
     }
     0
 }
@@ -104,12 +176,11 @@ pub fn stamp_of(kind: Kind, left: usize, top: usize, w: usize, h: usize) -> u64
 {
     match kind {
         Kind::Circle(cx, cy, r) => circle_stamp(cx, cy, r, left, top, w, h),
-        // from a corner to itself there is no edge
         Kind::Triangle(x0, y0, x1, y1, x2, y2) => {
-            polygon_stamp(x0, y0, x1, y1, x2, y2, x2, y2, left, top, w, h)
+            triangle_stamp(x0, y0, x1, y1, x2, y2, left, top, w, h)
         }
         Kind::Quad(x0, y0, x1, y1, x2, y2, x3, y3) => {
-            polygon_stamp(x0, y0, x1, y1, x2, y2, x3, y3, left, top, w, h)
+            quad_stamp(x0, y0, x1, y1, x2, y2, x3, y3, left, top, w, h)
         }
     }
 }

@@ -153,7 +153,7 @@ pub fn circle_point_score(
         }
         let left = cover::stamps::first_column(kind, w);
         if (bottom - top <= 8) & (left < w) {
-            let bits = cover::stamps::stamp_of(kind, left, top, w, h);
+            let bits = cover::stamps::circle_stamp(cx, cy, r, left, top, w, h);
             if bits != 0 {
                 let few = crate::points::unpaired(crate::points::push_stamp(
                     bits,
@@ -208,7 +208,7 @@ pub fn triangle_point_score(
         }
         let left = cover::stamps::first_column(kind, w);
         if (bottom - top <= 8) & (left < w) {
-            let bits = cover::stamps::stamp_of(kind, left, top, w, h);
+            let bits = cover::stamps::triangle_stamp(x0, y0, x1, y1, x2, y2, left, top, w, h);
             if bits != 0 {
                 let few = crate::points::unpaired(crate::points::push_stamp(
                     bits,
@@ -332,7 +332,7 @@ pub fn collect_circle_sums(
         }
         let left = cover::stamps::first_column(kind, w);
         if (bottom - top <= 8) & (left < w) {
-            let bits = cover::stamps::stamp_of(kind, left, top, w, h);
+            let bits = cover::stamps::circle_stamp(cx, cy, r, left, top, w, h);
             if bits != 0 {
                 let few = crate::points::unpaired(crate::points::push_stamp(
                     bits,
@@ -382,7 +382,7 @@ pub fn collect_triangle_sums(
         }
         let left = cover::stamps::first_column(kind, w);
         if (bottom - top <= 8) & (left < w) {
-            let bits = cover::stamps::stamp_of(kind, left, top, w, h);
+            let bits = cover::stamps::triangle_stamp(x0, y0, x1, y1, x2, y2, left, top, w, h);
             if bits != 0 {
                 let few = crate::points::unpaired(crate::points::push_stamp(
                     bits,

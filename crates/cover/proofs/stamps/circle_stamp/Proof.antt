@@ -9,16 +9,25 @@ use mir.Facts.{toZ-ofZ}
 use Rattle.laws.specs.Bools.{and-left, and-right}
 use Rattle.laws.specs.Bounds.{ldw, arg}
 use Rattle.laws.specs.Fit.{le-true}
+use Rattle.cover.specs.declared.Kind.the-variants.{Circle}
+use Rattle.cover.specs.Cover.{places}
+use Rattle.cover.specs.CoverLaws.{AllBounded, places-bounded}
 use Rattle.cover.specs.StampLaws.{circle-stamped}
 use borrow.Author.Needs.{needs}
 use Rattle.cover.proofs.stamps.circle_stamp.Statement.{statement}
 use Rattle.cover.proofs.stamps.circle_stamp.Tie as tie
 
+bounded : (s : tie.Start) → let a = s .args in AllBounded (places (Circle (a .cx) (a .cy) (a .r)))
+bounded s = let a = s .args in places-bounded (Circle (a .cx) (a .cy) (a .r)) (s .pre .1 .0)
+
 begins-requires : tie.Need-begins-requires
-begins-requires s κs = ((arg tt (ldw w32 tt (s .pre .0 .0)), arg tt (ldw w32 tt (s .pre .0 .2))), (s .pre .1 .0, s .pre .1 .2))
+begins-requires s κs = let b = bounded s in ((arg tt (ldw w32 tt (b .0)), arg tt (ldw w32 tt (b .1 .1 .0))), (s .pre .1 .1 .0, s .pre .0 .w-high))
 
 begins-requires-2 : tie.Need-begins-requires-2
-begins-requires-2 c κs = let s = c .before in ((arg tt (ldw w32 tt (s .pre .0 .1)), arg tt (ldw w32 tt (s .pre .0 .2))), (s .pre .1 .1, s .pre .1 .3))
+begins-requires-2 c κs =
+    let s = c .before in
+    let b = bounded s in
+    ((arg tt (ldw w32 tt (b .1 .0)), arg tt (ldw w32 tt (b .1 .1 .0))), (s .pre .1 .1 .1, s .pre .0 .h-high))
 
 -- what the tests show
 module _ (c : tie.Then1) where

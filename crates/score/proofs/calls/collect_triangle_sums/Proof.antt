@@ -48,14 +48,14 @@ first-column-requires c κs = asked c .column
 sub-if3 : tie.Need-sub-if3
 sub-if3 c = omega (arith, c .before .if2 .left)
 
-stamp-of-requires : tie.Need-stamp-of-requires
-stamp-of-requires c κs = asked (c .before .before) .stamp _ (c .if3 .taken)
+triangle-stamp-requires : tie.Need-triangle-stamp-requires
+triangle-stamp-requires c κs = asked (c .before .before) .stamp _ (c .if3 .taken)
 
 push-stamp-requires : tie.Need-push-stamp-requires
 push-stamp-requires c κs =
     let s = c .before in
     let u = s .before in
-    asked (u .before .before) .added _ _ (u .if3 .taken) (s .stamp-of .ensures (λ q. omega (arith, c .if4 .taken, q)))
+    asked (u .before .before) .added _ _ (u .if3 .taken) (s .triangle-stamp .ensures (λ q. omega (arith, c .if4 .taken, q)))
 
 unpaired-requires : tie.Need-unpaired-requires
 unpaired-requires c κs = search needs
@@ -71,7 +71,7 @@ returns-2 d =
     let z = t .before .before .before .before in
     simp (toZ-ofZ, z .fits .x0, z .fits .y0, z .fits .x1, z .fits .y1, z .fits .x2, z .fits .y2) at (
     point-sums-told _ (a .w) (a .h) (a .target .now) (a .canvas .now) (t .before .usual-pictures .ensures (t .if1 .taken))
-    (d .unpaired .result) (d .unpaired .ensures ∙ v .push-stamp .ensures ∙ stamp-is-points _ _ _ (a .w) (a .h) _ (s .stamp-of .ensures (λ q. omega (arith, p .if4 .taken, q))) (a .target .now) (a .canvas .now)))
+    (d .unpaired .result) (d .unpaired .ensures ∙ v .push-stamp .ensures ∙ stamp-is-points _ _ _ (a .w) (a .h) _ (s .triangle-stamp .ensures (λ q. omega (arith, p .if4 .taken, q))) (a .target .now) (a .canvas .now)))
 
 reached-sums-requires : tie.Need-reached-sums-requires
 reached-sums-requires c κs = asked (c .before .before) .reached
@@ -104,7 +104,7 @@ collect-triangle-sums-spec =
     returns
     first-column-requires
     sub-if3
-    stamp-of-requires
+    triangle-stamp-requires
     push-stamp-requires
     unpaired-requires
     returns-2

@@ -52,14 +52,14 @@ first-column-requires c κs = asked c .column
 sub-if3 : tie.Need-sub-if3
 sub-if3 c = omega (arith, c .before .if2 .left)
 
-stamp-of-requires : tie.Need-stamp-of-requires
-stamp-of-requires c κs = asked (c .before .before) .stamp _ (c .if3 .taken)
+triangle-stamp-requires : tie.Need-triangle-stamp-requires
+triangle-stamp-requires c κs = asked (c .before .before) .stamp _ (c .if3 .taken)
 
 push-stamp-requires : tie.Need-push-stamp-requires
 push-stamp-requires c κs =
     let s = c .before in
     let u = s .before in
-    asked (u .before .before) .added _ _ (u .if3 .taken) (s .stamp-of .ensures (λ q. omega (arith, c .if4 .taken, q)))
+    asked (u .before .before) .added _ _ (u .if3 .taken) (s .triangle-stamp .ensures (λ q. omega (arith, c .if4 .taken, q)))
 
 unpaired-requires : tie.Need-unpaired-requires
 unpaired-requires c κs = search needs
@@ -84,7 +84,7 @@ returns-2 c =
     let z = t .before .before .before .before .before .before in
     simp (toZ-ofZ, z .fits .x0, z .fits .y0, z .fits .x1, z .fits .y1, z .fits .x2, z .fits .y2) at (
     point-told _ (a .request) (n .asked .result) (a .levels .now) (a .w) (a .h) (n .asked .ensures) (a .target .now) (a .canvas .now) (t .before .usual-pictures .ensures (t .if1 .taken))
-    (d .unpaired .result) (m .finalize .result) (c .done .result) (d .unpaired .ensures ∙ v .push-stamp .ensures ∙ stamp-is-points _ _ _ (a .w) (a .h) _ (s .stamp-of .ensures (λ q. omega (arith, p .if4 .taken, q))) (a .target .now) (a .canvas .now)) (m .finalize .ensures) (c .done .ensures))
+    (d .unpaired .result) (m .finalize .result) (c .done .result) (d .unpaired .ensures ∙ v .push-stamp .ensures ∙ stamp-is-points _ _ _ (a .w) (a .h) _ (s .triangle-stamp .ensures (λ q. omega (arith, p .if4 .taken, q))) (a .target .now) (a .canvas .now)) (m .finalize .ensures) (c .done .ensures))
 
 reached-sums-requires : tie.Need-reached-sums-requires
 reached-sums-requires c κs = asked (c .before .before) .reached
@@ -124,7 +124,7 @@ triangle-point-score-spec =
     returns
     first-column-requires
     sub-if3
-    stamp-of-requires
+    triangle-stamp-requires
     push-stamp-requires
     unpaired-requires
     finalize-requires
