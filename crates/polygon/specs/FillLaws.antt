@@ -1,5 +1,5 @@
 -- Laws: the rows that fill_quad leaves out have no covered column; the rows that it works out are their runs.
-use mathlib.Core.Path.{_≡_, refl, subst}
+use mathlib.Core.Path.{_≡_, refl}
 use mathlib.Core.Bool.{Bool, true, false, _||_}
 use mathlib.Core.List.{List, [], _∷_}
 use mathlib.Core.Logic.{_⊎_, inl, inr}
@@ -18,7 +18,7 @@ use Rattle.laws.specs.RunLaws.{row-ends, row-past, row-none, runs-blank}
 use Rattle.whole.specs.Whole.{ClampI64Says}
 use Rattle.whole.specs.WholeLaws.{clamp-is}
 use Rattle.polygon.specs.Polygon.{at, area2, areaTest, polygonTests, polygon, corners, polygonPixel, leastOf, greatestOf, FillRunsSays}
-use Rattle.polygon.specs.Steps.{leftAt, rightAt, Room, Rows, RowRun}
+use Rattle.polygon.specs.Steps.{leftAt, rightAt, Room, Rows}
 use Rattle.polygon.specs.OneRow.{Done}
 use Rattle.polygon.specs.RowSteps.{runs-of-rows}
 use Rattle.polygon.specs.Box.{polygon-in-box}

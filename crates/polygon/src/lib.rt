@@ -147,7 +147,7 @@ fn brought(t: i32, most: u32) -> u32
     smaller(above_0(t), most)
 }
 
-// 2^31 or 2^37, by the height: so `times` has 32 digits at most, and the quotient is exact.
+// By the height, so that `times` has 32 digits at most and the quotient is exact.
 fn digits_of(height: u32) -> u32
     ensures { λ r. ⌜ r ≡ digitsOf height ⌝ }
 {
@@ -155,15 +155,6 @@ fn digits_of(height: u32) -> u32
         return 31;
     }
     37
-}
-
-fn power_of(height: u32) -> u64
-    ensures { λ r. ⌜ r ≡ 2 ^ digitsOf height ⌝ }
-{
-    if height < 64 {
-        return 2147483648;
-    }
-    137438953472
 }
 
 // The edge's number in row 0.
@@ -200,7 +191,8 @@ fn sloped_edge(a: i32, c: i32, s: i32) -> Edge
 {
     let height = whole::abs_i32(a);
     let digits = digits_of(height);
-    let times = (power_of(height) / height as u64 + 1) as u32;
+    let power: u64 = 1 << digits;
+    let times = (power / height as u64 + 1) as u32;
     let most = height * 257;
     let start = start_of(a, c);
     let step = step_of(a, s);

@@ -1,5 +1,5 @@
 -- `polygon::above_0` meets its contract.
-use lib.IntN.{pos, natAbs}
+use lib.IntN.{pos}
 use lib.Signed.{_≤ℤ_, pos-natAbs, yes-nonNeg}
 use mathlib.Core.Path.{sym, _∙_}
 use mir.Facts.{toZ-ofZ, fits-natAbs}

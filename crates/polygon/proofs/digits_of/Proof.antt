@@ -3,7 +3,6 @@ use mathlib.Core.Path.{sym, ap}
 use mathlib.Core.Bool.{Bool, cond}
 use borrow.Author.Tests.{lt-ltb, le-ltb}
 use native.Mathlib.Omega.{arith}
-use Prim.Native.Nat.{ℕ, _^_}
 use Rattle.polygon.proofs.digits_of.Statement.{statement}
 use Rattle.polygon.proofs.digits_of.Tie as tie
 

@@ -1,15 +1,15 @@
 -- `polygon::sloped_edge` meets its contract: the numbers are those that the law asks for, by the sign of the slope.
 use borrow.Author.Needs.{needs}
 use native.Mathlib.Omega.{arith}
-use native.Mathlib.Nat.{div-le-self}
-use mathlib.Core.Path.{_≡_, refl, sym, ap, _∙_}
-use Prim.Native.Nat.{ℕ, _+_, _*_, _/_, _^_, _<_, _≤_}
+use native.Mathlib.Nat.{mod-eq-of-lt, pow-le-pow-right}
+use mathlib.Core.Path.{_≡_, refl, ap, _∙_}
+use Prim.Native.Nat.{ℕ, _+_, _*_, _/_, _%_, _^_, _<_, _≤_}
 use lib.IntN.{ℤ, pos, natAbs}
 use lib.Signed.{ltZ}
 use mir.Syntax.{w32}
 use mir.Facts.{toZ-ofZ}
 use Rattle.polygon.specs.Steps.{digitsOf}
-use Rattle.polygon.specs.EdgeLaws.{abs-some, times-slim, cuts-half}
+use Rattle.polygon.specs.EdgeLaws.{abs-some, digits-few, times-slim, cuts-half}
 use Rattle.laws.specs.Fit.{read}
 use Rattle.laws.specs.Bounds.{arg, ld}
 use Rattle.polygon.proofs.sloped_edge.Statement.{statement}
@@ -35,21 +35,32 @@ module _ (c : tie.After-abs-i32) where
 digits-of-requires : tie.Need-digits-of-requires
 digits-of-requires c κs = search needs
 
-power-of-requires : tie.Need-power-of-requires
-power-of-requires c κs = search needs
+-- the digits
+digits-is : (c : tie.After-digits-of) → c .digits-of .result ≡ digitsOf (tall (c .before))
+digits-is c = c .digits-of .ensures ∙ ap digitsOf (is-tall (c .before))
+
+cast-power : tie.Need-cast-power
+cast-power c = search needs
+
+shl-power : tie.Need-shl-power
+shl-power c = omega (arith, digits-is c, digits-few (tall (c .before)))
 
 -- the power, and the number that stands for the division
-module _ (p : tie.After-power-of) where
+module _ (c : tie.After-digits-of) where
   abbrev a : tie.After-abs-i32
-  a = p .before .before
+  a = c .before
 
-  power-is : p .power-of .result ≡ 2 ^ digitsOf (tall a)
-  power-is = p .power-of .ensures ∙ ap (λ (h : ℕ). 2 ^ digitsOf h) (is-tall a)
+  power-is : (1 * 2 ^ c .digits-of .result) % 18446744073709551616 ≡ 2 ^ digitsOf (tall a)
+  power-is =
+      ap (λ (k : ℕ). (1 * 2 ^ k) % 18446744073709551616) (digits-is c)
+      ∙ mod-eq-of-lt (omega (arith, pow-le-pow-right {n = 2} (omega arith) (digits-few (tall a))))
+      ∙ omega arith
 
-  times-is : p .power-of .result / a .abs-i32 .result + 1 ≡ 2 ^ digitsOf (tall a) / tall a + 1
-  times-is = ap (λ (h : ℕ). p .power-of .result / h + 1) (is-tall a) ∙ ap (λ (n : ℕ). n / tall a + 1) power-is
+  times-is : (1 * 2 ^ c .digits-of .result) % 18446744073709551616 / a .abs-i32 .result + 1 ≡ 2 ^ digitsOf (tall a) / tall a + 1
+  times-is =
+      ap (λ (h : ℕ). (1 * 2 ^ c .digits-of .result) % 18446744073709551616 / h + 1) (is-tall a) ∙ ap (λ (n : ℕ). n / tall a + 1) power-is
 
-  slim : p .power-of .result / a .abs-i32 .result + 1 < 4294967296
+  slim : (1 * 2 ^ c .digits-of .result) % 18446744073709551616 / a .abs-i32 .result + 1 < 4294967296
   slim = omega (arith, times-is, times-slim (tall a) (above a) (few a))
 
 cast-times : tie.Need-cast-times
@@ -59,10 +70,10 @@ div-times : tie.Need-div-times
 div-times c = omega (arith, is-tall (a c), above (a c))
 
 add-times : tie.Need-add-times
-add-times c = omega (arith, slim c)
+add-times c = record { fits = omega (arith, slim c) }
 
 cast-times-2 : tie.Need-cast-times-2
-cast-times-2 c = omega (arith, slim c)
+cast-times-2 c = record { fits = omega (arith, slim c) }
 
 mul-most : tie.Need-mul-most
 mul-most c = omega (arith, is-tall (a c), few (a c))
@@ -82,7 +93,7 @@ returns c =
     cuts-half (g .a) (g .c) (g .s) _ (s .pre .0) (s .pre .1 .0) (s .pre .1 .1 .0) (s .pre .1 .1 .1) (ltZ (pos 0) (g .a)) refl
     (read w32 (c .before .start-of .result) (c .before .start-of .ok) ∙ (rw (toZ-ofZ (s .fits .a), toZ-ofZ (s .fits .c)) at (c .before .start-of .ensures)))
     (read w32 (c .step-of .result) (c .step-of .ok) ∙ (rw (toZ-ofZ (s .fits .a), toZ-ofZ (s .fits .s)) at (c .step-of .ensures)))
-    (ap (λ (z : ℤ). ltZ (pos 0) z) (toZ-ofZ (s .fits .a))) (p .before .digits-of .ensures ∙ ap digitsOf (is-tall t)) (times-is p) (ap (λ (h : ℕ). h * 257) (is-tall t))
+    (ap (λ (z : ℤ). ltZ (pos 0) z) (toZ-ofZ (s .fits .a))) (digits-is p) (times-is p) (ap (λ (h : ℕ). h * 257) (is-tall t))
 
 pub sloped-edge-spec : {M : Type 1} → statement M
 sloped-edge-spec =
@@ -90,7 +101,8 @@ sloped-edge-spec =
     (tie.spec
     abs-i32-requires
     digits-of-requires
-    power-of-requires
+    cast-power
+    shl-power
     cast-times
     div-times
     add-times
