@@ -51,7 +51,7 @@ pub fn paint(
     tested_paint(kind, opacity, red, green, blue, w, h, target, canvas, table)
 }
 
-// Every test passes, in one go once the sizes are known. Which one fails is left to the tests in order.
+// Every test passes, in one go from the places on. Which one fails is left to the tests in order.
 fn usual(
     kind: Kind,
     opacity: f32,
@@ -66,14 +66,10 @@ fn usual(
 ) -> bool
     ensures { λ r. ⌜ (r ≡ true → paintRefusal kind opacity red green blue w h target canvas table ≡ 0) ⌝ }
 {
-    if refusal::bad_size(w, h) {
+    if lengths_refusal(w, h, target, canvas, table) != 0 {
         return false;
     }
-    let lengths = !refusal::bad_picture(w, h, target)
-        & !refusal::bad_picture(w, h, canvas)
-        & !refusal::bad_table(w, h, table);
-    let colours = float::within(opacity) & !picture::bad_colour(red, green, blue);
-    lengths & colours & !cover::bad_places(kind)
+    float::within(opacity) & !picture::bad_colour(red, green, blue) & !cover::bad_places(kind)
 }
 
 // The same with the tests in order.
