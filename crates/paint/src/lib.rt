@@ -45,10 +45,43 @@ pub fn paint(
         if (last < first) & (0 <= last) {
             return 0;
         }
-        paint_both(kind, opacity, red, green, blue, w, h, target, canvas, table);
+        paint_both(
+            anew(kind),
+            opacity,
+            red,
+            green,
+            blue,
+            w,
+            h,
+            target,
+            canvas,
+            table,
+        );
         return 0;
     }
-    tested_paint(kind, opacity, red, green, blue, w, h, target, canvas, table)
+    tested_paint(
+        anew(kind),
+        opacity,
+        red,
+        green,
+        blue,
+        w,
+        h,
+        target,
+        canvas,
+        table,
+    )
+}
+
+// The same shape, made anew: what is handed on goes through memory, and so a call that hands nothing on does not.
+fn anew(kind: Kind) -> Kind
+    ensures { λ r. ⌜ r ≡ kind ⌝ }
+{
+    match kind {
+        Kind::Circle(cx, cy, r) => Kind::Circle(cx, cy, r),
+        Kind::Triangle(x0, y0, x1, y1, x2, y2) => Kind::Triangle(x0, y0, x1, y1, x2, y2),
+        Kind::Quad(x0, y0, x1, y1, x2, y2, x3, y3) => Kind::Quad(x0, y0, x1, y1, x2, y2, x3, y3),
+    }
 }
 
 // Every test passes, in one go from the places on. Which one fails is left to the tests in order.

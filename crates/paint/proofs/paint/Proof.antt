@@ -32,10 +32,15 @@ returns c =
     (lt-true _ _ (and-left (ltZ (r .result .last) (r .result .first)) (leZ (pos 0) (r .result .last)) t))
     (le-true _ _ (and-right (ltZ (r .result .last) (r .result .first)) (leZ (pos 0) (r .result .last)) t)))
 
+anew-requires : tie.Need-anew-requires
+anew-requires c κs = search needs
+
 paint-both-requires : tie.Need-paint-both-requires
 paint-both-requires c κs =
-    let e = c .before .before .before .before .before .before .before .usual .ensures (c .before .before .before .before .before .before .if1 .taken) in
-    (lengths-none _ _ _ _ _ _ _ _ _ _ e, passed _ _ _ _ _ _ _ _ _ _ e .places)
+    let n = c .before .before in
+    let t = n .before .before .before .before .before in
+    let e = t .before .usual .ensures (t .if1 .taken) in
+    rw (n .anew .ensures) (lengths-none _ _ _ _ _ _ _ _ _ _ e, passed _ _ _ _ _ _ _ _ _ _ e .places)
 
 same-length : tie.Need-same-length
 same-length c = search needs
@@ -45,10 +50,15 @@ same-length-2 c = search needs
 
 returns-2 : tie.Need-returns-2
 returns-2 c =
-    let a = c .before .before .before .before .before .before .before .before .before .before .before .before .before .before .before .before .args in
+    let b = c .before .before .before .before in
+    let n = b .before .before .before in
+    let t = n .before .before .before .before .before in
+    let a = t .before .before .before .before .before .args in
     paint-done (a .kind) (a .opacity) (a .red) (a .green) (a .blue) (a .w) (a .h) (a .target .now) (a .canvas .now) (a .table .now) _ _
-    (c .before .before .before .before .before .before .before .before .before .before .before .before .usual .ensures (c .before .before .before .before .before .before .before .before .before .before .before .if1 .taken))
-    (c .before .before .before .before .paint-both .ensures)
+    (t .before .usual .ensures (t .if1 .taken)) (rw (n .anew .ensures) at (b .paint-both .ensures))
+
+anew-requires-2 : tie.Need-anew-requires-2
+anew-requires-2 c κs = search needs
 
 tested-paint-requires : tie.Need-tested-paint-requires
 tested-paint-requires c κs = search needs
@@ -60,7 +70,7 @@ same-length-4 : tie.Need-same-length-4
 same-length-4 c = search needs
 
 returns-3 : tie.Need-returns-3
-returns-3 c = search needs
+returns-3 c = let b = c .before .before .before .before in rw (b .before .before .before .anew2 .ensures) at (b .tested-paint .ensures)
 
 pub paint-spec : {M : Type 1} → statement M
 paint-spec =
@@ -69,10 +79,12 @@ paint-spec =
     usual-requires
     row-reach-requires
     returns
+    anew-requires
     paint-both-requires
     same-length
     same-length-2
     returns-2
+    anew-requires-2
     tested-paint-requires
     same-length-3
     same-length-4
