@@ -45,32 +45,12 @@ pub fn paint(
         if (last < first) & (0 <= last) {
             return 0;
         }
-        paint_both(
-            anew(kind),
-            opacity,
-            red,
-            green,
-            blue,
-            w,
-            h,
-            target,
-            canvas,
-            table,
-        );
+        let same = anew(kind);
+        paint_both(same, opacity, red, green, blue, w, h, target, canvas, table);
         return 0;
     }
-    tested_paint(
-        anew(kind),
-        opacity,
-        red,
-        green,
-        blue,
-        w,
-        h,
-        target,
-        canvas,
-        table,
-    )
+    let same = anew(kind);
+    tested_paint(same, opacity, red, green, blue, w, h, target, canvas, table)
 }
 
 // The same shape, made anew: what is handed on goes through memory, and so a call that hands nothing on does not.
