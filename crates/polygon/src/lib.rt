@@ -308,8 +308,7 @@ fn cut_row(
     }
 }
 
-// The run of a row. The edge that a triangle has not stands last, and the test for it is the same in every row: a triangle's loop has
-// three edges.
+// The run of a row. The edge that a triangle has not stands last, and the test for it is the same in every row.
 fn quad_row(
     x0: i32,
     y0: i32,
