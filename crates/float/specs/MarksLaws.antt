@@ -73,13 +73,24 @@ sum-number f s a t b c =
     (round-no-nan f s (a + b) c)
     (either (ltb a b) (round f t (b - a) c) (round f (s && ltb b a) (a - b) c) (round-no-nan f t (b - a) c) (round-no-nan f (s && ltb b a) (a - b) c))
 
--- a difference that is a number is of two numbers
+-- a sum that is a number is of two numbers
+pub sum-numbers : (f : Format) (x y : Float) → T (number (add f x y)) → T (number x) × T (number y)
+unfolding add isNan
+sum-numbers f nan y h = absurd h
+sum-numbers f (inf s) nan h = absurd h
+sum-numbers f (inf s) (inf t) h = (tt, tt)
+sum-numbers f (inf s) (fin t n d) h = (tt, tt)
+sum-numbers f (fin s m e) nan h = absurd h
+sum-numbers f (fin s m e) (inf t) h = (tt, tt)
+sum-numbers f (fin s m e) (fin t n d) h = (tt, tt)
+
+negated-number : (y : Float) → T (number (neg y)) → T (number y)
+unfolding neg isNan
+negated-number nan h = absurd h
+negated-number (inf s) h = tt
+negated-number (fin s m e) h = tt
+
+-- and so is a difference
 pub parts-numbers : (f : Format) (x y : Float) → T (number (sub f x y)) → T (number x) × T (number y)
-unfolding sub add neg isNan
-parts-numbers f nan y h = absurd h
-parts-numbers f (inf s) nan h = absurd h
-parts-numbers f (inf s) (inf t) h = (tt, tt)
-parts-numbers f (inf s) (fin t n d) h = (tt, tt)
-parts-numbers f (fin s m e) nan h = absurd h
-parts-numbers f (fin s m e) (inf t) h = (tt, tt)
-parts-numbers f (fin s m e) (fin t n d) h = (tt, tt)
+unfolding sub
+parts-numbers f x y h = let p = sum-numbers f x (neg y) h in (p .0, negated-number y (p .1))

@@ -35,7 +35,7 @@ pub record Asked (kind : Kind) (w h : ℕ) (r : Rows) (Lent : Type 0) (Laid : �
 module _ (kind : Kind) (w h : ℕ) where
   abbrev pub PointsAsked : List Float → List Float → Rows → Type 0
   PointsAsked target canvas r =
-      Asked kind w h r ((length target ≡ h * w * 3) × (length canvas ≡ h * w * 3)) (λ left bits. (length canvas ≡ length target) × StampIn w left (r .top) (length target) 0 bits)
+      Asked kind w h r ((length target ≡ h * w * 3) × (length canvas ≡ h * w * 3)) (λ left bits. (length canvas ≡ length target) × StampIn w left (r .top) (length target) bits)
 
   abbrev pub SpansAsked : List Float → Rows → Type 0
   SpansAsked table r = Asked kind w h r (length table ≡ h * (w + 1) * 15) (λ left bits. RowsIn w left (r .top) (length table) 8 bits)

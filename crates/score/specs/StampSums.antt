@@ -2,6 +2,8 @@
 use mathlib.Core.Path.{_≡_}
 use mathlib.Core.List.{List}
 use Prim.Native.Nat.{ℕ, _+_, _-_, _*_, _/_, _%_, _^_, _≤_, _<_}
+use lib.Bits.{bitAnd}
+use lib.Count.{trailingZeros}
 use lib.Ieee.{Float}
 use Rattle.laws.specs.PixelSums.{addSpan}
 use Rattle.sums.specs.declared.ShapeSums.{ShapeSums}
@@ -14,13 +16,21 @@ use Rattle.score.specs.Scoring.{pixelAt}
 abbrev pub stampPixel : ℕ → List Float → List Float → ℕ → ℕ → ℕ → ShapeSums → ShapeSums
 stampPixel w target canvas left top i s = plus s (pixelAt w target canvas (top + i / 8) (left + i % 8))
 
--- the pixels that the digits of b say, from pixel i on
-abbrev pub stampPoints : ℕ → List Float → List Float → ℕ → ℕ → ℕ → ℕ → ShapeSums → ShapeSums
-stampPoints w target canvas left top i b s = digitSteps (stampPixel w target canvas left top) i (64 - i) b s
+-- the pixels that the digits of b say
+abbrev pub stampPoints : ℕ → List Float → List Float → ℕ → ℕ → ℕ → ShapeSums → ShapeSums
+stampPoints w target canvas left top b s = digitSteps (stampPixel w target canvas left top) 0 64 b s
 
 -- all of them lie in a picture of n numbers
-abbrev pub StampIn : ℕ → ℕ → ℕ → ℕ → ℕ → ℕ → Type 0
-StampIn w left top n i b = (j : ℕ) → b / 2 ^ j % 2 ≡ 1 → ((top + (i + j) / 8) * w + (left + (i + j) % 8)) * 3 + 3 ≤ n
+abbrev pub StampIn : ℕ → ℕ → ℕ → ℕ → ℕ → Type 0
+StampIn w left top n b = (j : ℕ) → b / 2 ^ j % 2 ≡ 1 → ((top + j / 8) * w + (left + j % 8)) * 3 + 3 ≤ n
+
+-- where the first of them begins, in rows of as many numbers
+abbrev pub firstPlace : ℕ → ℕ → ℕ → ℕ
+firstPlace corner row b = corner + trailingZeros 64 b / 8 * row + trailingZeros 64 b % 8 * 3
+
+-- b without its first digit that is 1
+abbrev pub withoutFirst : ℕ → ℕ
+withoutFirst b = bitAnd b (b - 1)
 
 -- a row's run
 abbrev pub stampRow : ℕ → List Float → ℕ → ℕ → ℕ → ShapeSums → ShapeSums

@@ -2,12 +2,13 @@
 ghost use mathlib.Core.Path.{_≡_};
 ghost use mathlib.Core.Bool.{true, false};
 ghost use Prim.Native.Nat.{_+_, _-_, _*_, _/_, _%_, _≤_, _<_, _^_};
+ghost use lib.Count.{trailingZeros};
 ghost use lib.ListN.{length};
 ghost use Rattle.refusal.specs.Refusals.{Sized};
 ghost use Rattle.cover.specs.Cover.{badPlaces};
 ghost use Rattle.sums.specs.Sums.{noSums, plus, pixelSums};
 ghost use Rattle.score.specs.RunSums.{pixelsAdded, pointsAdded, RunsFit, NumbersIn, Reached};
-ghost use Rattle.score.specs.StampSums.{stampPoints, StampIn};
+ghost use Rattle.score.specs.StampSums.{stampPoints, StampIn, firstPlace, withoutFirst};
 ghost use Rattle.score.specs.Scoring.{pixelFrom, pointSums};
 ghost use Rattle.score.specs.Paired.{unpairedOf};
 use cover::Kind;
@@ -156,18 +157,15 @@ fn push_numbers(target: &[f32], canvas: &[f32], at: usize, s: Paired) -> Paired
     )
 }
 
-// None of the pixel's channels is a NaN.
+// None of the pixel's channels is a NaN: a sum that is a number is of numbers alone. Two sums, which the compiler works out as a pair. Infinities
+// of both signs make it false too, and then each channel is looked at.
 fn numbers_at(target: &[f32], canvas: &[f32], at: usize) -> bool
     requires { ⌜ (at + 3 ≤ length (now target)) × (at + 3 ≤ length (now canvas)) ⌝ }
     ensures { λ r. ⌜ (r ≡ true → NumbersIn (now (target .entry)) at (at + 3) × NumbersIn (now (canvas .entry)) at (at + 3)) ⌝ }
 {
-    let tr = target[at];
-    let tg = target[at + 1];
-    let tb = target[at + 2];
-    let cr = canvas[at];
-    let cg = canvas[at + 1];
-    let cb = canvas[at + 2];
-    (tr == tr) & (tg == tg) & (tb == tb) & (cr == cr) & (cg == cg) & (cb == cb)
+    let first = target[at] + canvas[at] + target[at + 2];
+    let second = target[at + 1] + canvas[at + 1] + canvas[at + 2];
+    (first == first) & (second == second)
 }
 
 // Pixels left <= x < right of row y, none of which is a NaN.
@@ -268,18 +266,27 @@ fn push_rows(
     s
 }
 
-// Where the channels of a stamp's pixel i begin.
-fn stamp_place(i: usize, left: usize, top: usize, w: usize) -> usize
-    requires { ⌜ (i < 64) × (left < 256) × (top < 256) × (w ≤ 256) ⌝ }
-    ensures { λ r. ⌜ r ≡ ((top + i / 8) * w + (left + i % 8)) * 3 ⌝ }
+// Where the channels of the first pixel begin that the bits say, of a picture whose rows have `row` numbers; the stamp begins at place `corner`.
+// Of no bit it is a place behind the stamp, which nothing reads.
+fn first_place(bits: u64, corner: usize, row: usize) -> usize
+    requires { ⌜ (corner ≤ 200000) × (row ≤ 768) ⌝ }
+    ensures { λ r. ⌜ r ≡ firstPlace corner row bits ⌝ }
 {
-    ((top + i / 8) * w + (left + i % 8)) * 3
+    let i = u64::trailing_zeros(bits) as usize;
+    corner + i / 8 * row + i % 8 * 3
 }
 
-// The pixels that the bits of `rest` say, from pixel `from` on, of any bits.
+// The bits without the first that is 1.
+fn without_first(bits: u64) -> u64
+    requires { ⌜ 0 < bits ⌝ }
+    ensures { λ r. ⌜ r ≡ withoutFirst bits ⌝ }
+{
+    bits & (bits - 1)
+}
+
+// The pixels that the bits say, of any values.
 fn push_stamp_any(
-    rest: u64,
-    from: usize,
+    bits: u64,
     left: usize,
     top: usize,
     target: &[f32],
@@ -287,26 +294,25 @@ fn push_stamp_any(
     w: usize,
     sums: Paired,
 ) -> Paired
-    requires bits { ⌜ (from ≤ 64) × (rest < 2 ^ (64 - from)) × (sums .count ≤ from) ⌝ }
+    requires bits { ⌜ sums .count ≤ trailingZeros 64 bits ⌝ }
     requires window { ⌜ (left < 256) × (top < 256) × (w ≤ 256) ⌝ }
     requires lent { ⌜ length (now canvas) ≡ length (now target) ⌝ }
-    requires pixels { ⌜ StampIn w left top (length (now target)) from rest ⌝ }
-    ensures { λ r. ⌜ unpairedOf r ≡ stampPoints w (now (target .entry)) (now (canvas .entry)) left top from rest (unpairedOf sums) ⌝ }
+    requires pixels { ⌜ StampIn w left top (length (now target)) bits ⌝ }
+    ensures { λ r. ⌜ unpairedOf r ≡ stampPoints w (now (target .entry)) (now (canvas .entry)) left top bits (unpairedOf sums) ⌝ }
 {
+    let corner = (top * w + left) * 3;
+    let row = w * 3;
     let mut s = sums;
-    let mut b = rest;
-    let mut i = from;
+    let mut b = bits;
     while b != 0 {
-        let z = u64::trailing_zeros(b);
-        let j = i + z as usize;
-        s = push_any(target, canvas, stamp_place(j, left, top, w), s);
-        b = (b >> z) / 2;
-        i = j + 1;
+        s = push_any(target, canvas, first_place(b, corner, row), s);
+        b = without_first(b);
     }
     s
 }
 
-// The pixels of a stamp, in row order. Each is looked at until there is a NaN.
+// The pixels of a stamp, in row order. Each is looked at until there is a NaN. The next one's place is worked out before the sums of this one,
+// which the processor has to wait for.
 pub(crate) fn push_stamp(
     bits: u64,
     left: usize,
@@ -317,22 +323,23 @@ pub(crate) fn push_stamp(
 ) -> Paired
     requires window { ⌜ (left < 256) × (top < 256) × (w ≤ 256) ⌝ }
     requires lent { ⌜ length (now canvas) ≡ length (now target) ⌝ }
-    requires pixels { ⌜ StampIn w left top (length (now target)) 0 bits ⌝ }
-    ensures { λ r. ⌜ unpairedOf r ≡ stampPoints w (now (target .entry)) (now (canvas .entry)) left top 0 bits noSums ⌝ }
+    requires pixels { ⌜ StampIn w left top (length (now target)) bits ⌝ }
+    ensures { λ r. ⌜ unpairedOf r ≡ stampPoints w (now (target .entry)) (now (canvas .entry)) left top bits noSums ⌝ }
 {
+    let corner = (top * w + left) * 3;
+    let row = w * 3;
     let mut s = no_pairs();
     let mut b = bits;
-    let mut i = 0;
+    let mut at = first_place(bits, corner, row);
     while b != 0 {
-        let z = u64::trailing_zeros(b);
-        let j = i + z as usize;
-        let at = stamp_place(j, left, top, w);
+        let rest = without_first(b);
+        let next = first_place(rest, corner, row);
         if !numbers_at(target, canvas, at) {
-            return push_stamp_any(b, i, left, top, target, canvas, w, s);
+            return push_stamp_any(b, left, top, target, canvas, w, s);
         }
         s = push_numbers(target, canvas, at, s);
-        b = (b >> z) / 2;
-        i = j + 1;
+        b = rest;
+        at = next;
     }
     s
 }

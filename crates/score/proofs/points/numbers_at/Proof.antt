@@ -1,4 +1,4 @@
--- `score::points::numbers_at` meets its contract: a value that equals itself is no NaN.
+-- `score::points::numbers_at` meets its contract: a sum that equals itself is a number, and so are its addends.
 use mathlib.Core.Path.{_≡_, refl, sym, _∙_, ap, subst}
 use mathlib.Core.Bool.{true, _&&_}
 use mathlib.Core.List.{List}
@@ -7,66 +7,71 @@ use native.Mathlib.Omega.{arith}
 use native.Mathlib.Decide.{ℕ-discrete}
 use lib.Dec.{T}
 use lib.ListN.{getD}
-use lib.Ieee.{Float, nan, eq}
+use lib.Ieee.{Float, nan, eq, binary32}
 use Rattle.laws.specs.Bools.{true-is, and-left, and-right}
+use Rattle.laws.specs.F32.{_⊞_}
 use Rattle.float.specs.Within.{number}
 use Rattle.float.specs.Numbers.{itself-number}
+use Rattle.float.specs.MarksLaws.{sum-numbers}
 use Rattle.score.specs.RunSums.{NumbersIn}
 use borrow.Author.Needs.{needs}
 use Rattle.score.proofs.points.numbers_at.Statement.{statement}
 use Rattle.score.proofs.points.numbers_at.Tie as tie
 
-mul-tr : tie.Need-mul-tr
-mul-tr c = search needs
+mul-first : tie.Need-mul-first
+mul-first c = search needs
 
-shared-slice-read-tr : tie.Need-shared-slice-read-tr
-shared-slice-read-tr c = search needs
+shared-slice-read-first : tie.Need-shared-slice-read-first
+shared-slice-read-first c = search needs
 
-add-tg : tie.Need-add-tg
-add-tg c = search needs
+mul-first-2 : tie.Need-mul-first-2
+mul-first-2 c = search needs
 
-mul-tg : tie.Need-mul-tg
-mul-tg c = search needs
+shared-slice-read-first-2 : tie.Need-shared-slice-read-first-2
+shared-slice-read-first-2 c = search needs
 
-shared-slice-read-tg : tie.Need-shared-slice-read-tg
-shared-slice-read-tg c = search needs
+add-first : tie.Need-add-first
+add-first c = search needs
 
-add-tb : tie.Need-add-tb
-add-tb c = search needs
+mul-first-3 : tie.Need-mul-first-3
+mul-first-3 c = search needs
 
-mul-tb : tie.Need-mul-tb
-mul-tb c = search needs
+shared-slice-read-first-3 : tie.Need-shared-slice-read-first-3
+shared-slice-read-first-3 c = search needs
 
-shared-slice-read-tb : tie.Need-shared-slice-read-tb
-shared-slice-read-tb c = search needs
+add-second : tie.Need-add-second
+add-second c = search needs
 
-mul-cr : tie.Need-mul-cr
-mul-cr c = search needs
+mul-second : tie.Need-mul-second
+mul-second c = search needs
 
-shared-slice-read-cr : tie.Need-shared-slice-read-cr
-shared-slice-read-cr c = search needs
+shared-slice-read-second : tie.Need-shared-slice-read-second
+shared-slice-read-second c = search needs
 
-add-cg : tie.Need-add-cg
-add-cg c = search needs
+add-second-2 : tie.Need-add-second-2
+add-second-2 c = search needs
 
-mul-cg : tie.Need-mul-cg
-mul-cg c = search needs
+mul-second-2 : tie.Need-mul-second-2
+mul-second-2 c = search needs
 
-shared-slice-read-cg : tie.Need-shared-slice-read-cg
-shared-slice-read-cg c = search needs
+shared-slice-read-second-2 : tie.Need-shared-slice-read-second-2
+shared-slice-read-second-2 c = search needs
 
-add-cb : tie.Need-add-cb
-add-cb c = search needs
+add-second-3 : tie.Need-add-second-3
+add-second-3 c = search needs
 
-mul-cb : tie.Need-mul-cb
-mul-cb c = search needs
+mul-second-3 : tie.Need-mul-second-3
+mul-second-3 c = search needs
 
-shared-slice-read-cb : tie.Need-shared-slice-read-cb
-shared-slice-read-cb c = search needs
+shared-slice-read-second-3 : tie.Need-shared-slice-read-second-3
+shared-slice-read-second-3 c = search needs
 
--- a value that equals itself
-is-number : (x : Float) → eq x x ≡ true → T (number x)
-is-number x e = true-is (number x) (sym (itself-number x) ∙ e)
+-- three addends of a sum that equals itself
+addends : (x y z : Float) → eq (x ⊞ y ⊞ z) (x ⊞ y ⊞ z) ≡ true → T (number x) × T (number y) × T (number z)
+addends x y z e =
+    let p = sum-numbers binary32 (x ⊞ y) z (true-is (number (x ⊞ y ⊞ z)) (sym (itself-number (x ⊞ y ⊞ z)) ∙ e)) in
+    let q = sum-numbers binary32 x y (p .0) in
+    (q .0, q .1, p .1)
 
 -- three numbers in a row
 three : (xs : List Float) (at : ℕ) → T (number (getD xs at nan)) → T (number (getD xs (at + 1) nan)) → T (number (getD xs (at + 2) nan)) → NumbersIn xs at (at + 3)
@@ -86,39 +91,31 @@ returns c =
     let t = s .args .target .now in
     let v = s .args .canvas .now in
     let n = s .args .at in
-    let x0 = eq (getD t n nan) (getD t n nan) in
-    let x1 = eq (getD t (n + 1) nan) (getD t (n + 1) nan) in
-    let x2 = eq (getD t (n + 2) nan) (getD t (n + 2) nan) in
-    let y0 = eq (getD v n nan) (getD v n nan) in
-    let y1 = eq (getD v (n + 1) nan) (getD v (n + 1) nan) in
-    let y2 = eq (getD v (n + 2) nan) (getD v (n + 2) nan) in
+    let x = getD t n nan ⊞ getD v n nan ⊞ getD t (n + 2) nan in
+    let y = getD t (n + 1) nan ⊞ getD v (n + 1) nan ⊞ getD v (n + 2) nan in
     λ e.
-    let d = and-left ((((x0 && x1) && x2) && y0) && y1) y2 e in
-    let g = and-left (((x0 && x1) && x2) && y0) y1 d in
-    let h = and-left ((x0 && x1) && x2) y0 g in
-    let k = and-left (x0 && x1) x2 h in (
-      three t n (is-number _ (and-left x0 x1 k)) (is-number _ (and-right x0 x1 k)) (is-number _ (and-right (x0 && x1) x2 h)),
-      three v n (is-number _ (and-right ((x0 && x1) && x2) y0 g)) (is-number _ (and-right (((x0 && x1) && x2) && y0) y1 d)) (is-number _ (and-right ((((x0 && x1) && x2) && y0) && y1) y2 e)),
-    )
+    let p = addends (getD t n nan) (getD v n nan) (getD t (n + 2) nan) (and-left (eq x x) (eq y y) e) in
+    let q = addends (getD t (n + 1) nan) (getD v (n + 1) nan) (getD v (n + 2) nan) (and-right (eq x x) (eq y y) e) in
+    (three t n (p .0) (q .0) (p .2), three v n (p .1) (q .1) (q .2))
 
 pub numbers-at-spec : {M : Type 1} → statement M
 numbers-at-spec =
     tie.close
     (tie.spec
-    mul-tr
-    shared-slice-read-tr
-    add-tg
-    mul-tg
-    shared-slice-read-tg
-    add-tb
-    mul-tb
-    shared-slice-read-tb
-    mul-cr
-    shared-slice-read-cr
-    add-cg
-    mul-cg
-    shared-slice-read-cg
-    add-cb
-    mul-cb
-    shared-slice-read-cb
+    mul-first
+    shared-slice-read-first
+    mul-first-2
+    shared-slice-read-first-2
+    add-first
+    mul-first-3
+    shared-slice-read-first-3
+    add-second
+    mul-second
+    shared-slice-read-second
+    add-second-2
+    mul-second-2
+    shared-slice-read-second-2
+    add-second-3
+    mul-second-3
+    shared-slice-read-second-3
     returns)
