@@ -1,15 +1,15 @@
 -- Laws: the loops over a stamp, and what they come to.
 use mathlib.Core.Path.{_≡_, refl, sym, _∙_, ap, ap₂, subst}
-use mathlib.Core.Bool.{Bool, true, cond, _&&_}
+use mathlib.Core.Bool.{Bool, true, _&&_}
 use mathlib.Core.List.{List}
-use Prim.Native.Nat.{ℕ, zero, suc, _+_, _-_, _*_, _/_, _%_, _^_, _≤_, _<_, min}
+use Prim.Native.Nat.{ℕ, zero, suc, _+_, _-_, _*_, _/_, _%_, _^_, _≤_, _<_}
 use native.Mathlib.Nat.{pow-suc, mul-comm, mul-assoc, mul-le-mul, mul-le-mul-right, div-div-eq-div-mul}
 use native.Mathlib.Omega.{arith}
 use lib.Dec.{eqb, eqb→eq, leb, ltb}
 use borrow.Author.Tests.{ltb-true}
 use lib.Ieee.{Float}
-use lib.Bits.{bitAnd, and-step, and-self, and-shr, and-mod, and-le-l}
-use lib.Count.{trailingZeros, under, leadingZeros, leading-top}
+use lib.Bits.{and-le-l}
+use lib.Count.{trailingZeros, leadingZeros, leading-top}
 use Rattle.laws.specs.Bools.{true-is, and-right}
 use Rattle.laws.specs.Ends.{Ends, ends, endsOf}
 use Rattle.laws.specs.EndsLaws.{Ended, ended}
@@ -17,8 +17,8 @@ use Rattle.laws.specs.PixelSums.{addSpan}
 use Rattle.sums.specs.declared.ShapeSums.{ShapeSums}
 use Rattle.sums.specs.Sums.{noSums, plus, minus}
 use Rattle.table.specs.Layout.{placeOf}
-use Rattle.stamp.specs.Digits.{digitIs, digitSteps, rowSteps, rowEnds}
-use Rattle.stamp.specs.DigitLaws.{Next, next, steps-none, row-steps-none, digit-test, digits-row-at}
+use Rattle.stamp.specs.Digits.{digitIs, withoutFirst, digitSteps, rowSteps, rowEnds}
+use Rattle.stamp.specs.DigitLaws.{first, without-digit, steps-none, row-steps-none, digit-test, digits-row-at}
 use Rattle.stamp.specs.StampLaws.{digits-below}
 use Rattle.stamp.specs.Stamp.{digitsFrom}
 use Rattle.stamp.specs.WindowLaws.{stamp-points, stamp-spans}
@@ -31,85 +31,7 @@ use Rattle.refusal.specs.Refusals.{Sized}
 use Rattle.score.specs.ScoringLaws.{reached-rows, some-reached}
 use Rattle.score.specs.Scoring.{pixelFrom, pixelAt, pointSums, spanSums}
 use Rattle.stamp.specs.RowLaws.{row-some, row-ends, row-none}
-use Rattle.score.specs.StampSums.{stampPixel, stampPoints, StampIn, firstPlace, withoutFirst, stampRow, stampSpans, RowIn, RowsIn}
-
--- ---- a number without its first digit that is 1
-without-odd : (b : ℕ) → b % 2 ≡ 1 → withoutFirst b ≡ b / 2 * 2
-without-odd b e =
-    let f : (b - 1) / 2 ≡ b / 2 = omega (arith, e) in
-    let g : (b - 1) % 2 ≡ 0 = omega (arith, e) in
-    let z : b / 2 * 2 + 0 ≡ b / 2 * 2 = omega arith in
-    and-step b (b - 1)
-    ∙ ap (λ (c : ℕ). bitAnd (b / 2) c * 2 + min (b % 2) ((b - 1) % 2)) f
-    ∙ ap₂ (λ (p q : ℕ). bitAnd (b / 2) (b / 2) * 2 + min p q) e g
-    ∙ ap (λ (c : ℕ). c * 2 + 0) (and-self (b / 2))
-    ∙ z
-
-without-even : (b : ℕ) → 0 < b → b % 2 ≡ 0 → withoutFirst b ≡ withoutFirst (b / 2) * 2
-without-even b p e =
-    let f : (b - 1) / 2 ≡ b / 2 - 1 = omega (arith, e) in
-    let g : (b - 1) % 2 ≡ 1 = omega (arith, e) in
-    let z : withoutFirst (b / 2) * 2 + 0 ≡ withoutFirst (b / 2) * 2 = omega arith in
-    and-step b (b - 1)
-    ∙ ap (λ (c : ℕ). bitAnd (b / 2) c * 2 + min (b % 2) ((b - 1) % 2)) f
-    ∙ ap₂ (λ (p q : ℕ). bitAnd (b / 2) (b / 2 - 1) * 2 + min p q) e g
-    ∙ z
-
-twice-half : (c : ℕ) → c * 2 / 2 ≡ c
-twice-half c = omega arith
-
-twice-even : (c : ℕ) → c * 2 % 2 ≡ 0
-twice-even c = omega arith
-
--- more zeros come first then
-without-later : (k b : ℕ) → b < 2 ^ k → 0 < b → suc (trailingZeros k b) ≤ trailingZeros k (withoutFirst b)
-unfolding trailingZeros
-without-later zero b h p = absurd (omega arith)
-without-later (suc k) b h p = by (λ l q. without-later k (b / 2) l q) (b % 2) refl
-  where
-    twice : (c : ℕ) → trailingZeros (suc k) (c * 2) ≡ suc (trailingZeros k c)
-    twice c = ap₂ (λ (d e : ℕ). under d (trailingZeros k e)) (twice-even c) (twice-half c)
-
-    by : (b / 2 < 2 ^ k → 0 < b / 2 → suc (trailingZeros k (b / 2)) ≤ trailingZeros k (withoutFirst (b / 2))) → (d : ℕ) → b % 2 ≡ d
-        → suc (under (b % 2) (trailingZeros k (b / 2))) ≤ trailingZeros (suc k) (withoutFirst b)
-    by rest zero e =
-        let q = pow-suc 2 k in
-        let l : b / 2 < 2 ^ k = omega (arith, q) in
-        let i = rest l (omega (arith, e, p)) in
-        rw (e, without-even b p e, twice (withoutFirst (b / 2))) (omega (arith, i))
-    by rest (suc zero) e = rw (e, without-odd b e, twice (b / 2)) (omega arith)
-    by rest (suc (suc d)) e = absurd (omega (arith, e))
-
--- its digits that are 1 are digits of b
-without-digit : (b j : ℕ) → withoutFirst b / 2 ^ j % 2 ≡ 1 → b / 2 ^ j % 2 ≡ 1
-without-digit b j o =
-    let e : withoutFirst b / 2 ^ j % 2 ≡ bitAnd (b / 2 ^ j % 2) ((b - 1) / 2 ^ j % 2) = ap (λ (c : ℕ). c % 2) (and-shr b (b - 1) j) ∙ and-mod (b / 2 ^ j) ((b - 1) / 2 ^ j) 1 in
-    let l = and-le-l (b / 2 ^ j % 2) ((b - 1) / 2 ^ j % 2) in
-    omega (arith, e, l, o)
-
--- the step of the first digit that is 1, and then those of the others
-module _ {E : Type 0} (step : ℕ → E → E) where
-  first-step : (k n b i : ℕ) (s : E) → n ≤ k → b < 2 ^ n → 0 < b → digitSteps step i n b s ≡ digitSteps step i n (withoutFirst b) (step (i + trailingZeros k b) s)
-  unfolding digitSteps trailingZeros
-  first-step k zero b i s l h p = absurd (omega arith)
-  first-step zero (suc n) b i s l h p = absurd (omega arith)
-  first-step (suc k) (suc n) b i s l h p = by (λ m q. first-step k n (b / 2) (suc i) s (omega arith) m q) (b % 2) refl
-    where
-      twice : (c : ℕ) (t : E) → digitSteps step i (suc n) (c * 2) t ≡ digitSteps step (suc i) n c t
-      twice c t = ap₂ (λ (d e : ℕ). digitSteps step (suc i) n e (cond (eqb d 1) (step i t) t)) (twice-even c) (twice-half c)
-
-      by : (b / 2 < 2 ^ n → 0 < b / 2 → digitSteps step (suc i) n (b / 2) s ≡ digitSteps step (suc i) n (withoutFirst (b / 2)) (step (suc i + trailingZeros k (b / 2)) s)) → (d : ℕ) → b % 2 ≡ d
-          → digitSteps step (suc i) n (b / 2) (cond (eqb (b % 2) 1) (step i s) s) ≡ digitSteps step i (suc n) (withoutFirst b) (step (i + under (b % 2) (trailingZeros k (b / 2))) s)
-      by rest zero e =
-          let q = pow-suc 2 n in
-          let m : b / 2 < 2 ^ n = omega (arith, q) in
-          let z : suc i + trailingZeros k (b / 2) ≡ i + suc (trailingZeros k (b / 2)) = omega arith in
-          rw (e, without-even b p e, twice (withoutFirst (b / 2)) (step (i + suc (trailingZeros k (b / 2))) s))
-          (rest m (omega (arith, e, p)) ∙ ap (λ (j : ℕ). digitSteps step (suc i) n (withoutFirst (b / 2)) (step j s)) z)
-      by rest (suc zero) e =
-          let z : i ≡ i + 0 = omega arith in
-          rw (e, without-odd b e, twice (b / 2) (step (i + 0) s)) (ap (λ (j : ℕ). digitSteps step (suc i) n (b / 2) (step j s)) z)
-      by rest (suc (suc d)) e = absurd (omega (arith, e))
+use Rattle.score.specs.StampSums.{stampPixel, stampPoints, StampIn, firstPlace, stampRow, stampSpans, RowIn, RowsIn}
 
 -- where a stamp begins
 pub corner-small : (left top w : ℕ) → left < 256 → top < 256 → w ≤ 256 → (top * w + left) * 3 ≤ 200000
@@ -135,15 +57,15 @@ module _ (w : ℕ) (target canvas : List Float) (left top : ℕ) where
   pub turn : (n b : ℕ) (s : ShapeSums) → b < 2 ^ 64 → 0 < b → StampIn w left top n b → Turn n b s
   turn n b s h p f =
       let z = trailingZeros 64 b in
-      let t = next (stampPixel w target canvas left top) 64 64 b 0 s (omega arith) h p in
+      let t = first (stampPixel w target canvas left top) 64 64 b 0 s (omega arith) h p in
       let e = placed z in
       let g : 0 + z ≡ z = omega arith in record {
         inside = t .inside;
         place = omega (arith, f z (t .one), e);
         less = omega (arith, and-le-l b (b - 1), h);
-        later = without-later 64 b h p;
+        later = t .later;
         behind = λ j o. f j (without-digit b j o);
-        steps = first-step (stampPixel w target canvas left top) 64 64 b 0 s (omega arith) h p
+        steps = t .steps
             ∙ ap (λ (i : ℕ). stampPoints w target canvas left top (withoutFirst b) (stampPixel w target canvas left top i s)) g
             ∙ ap (λ (i : ℕ). stampPoints w target canvas left top (withoutFirst b) (plus s (pixelFrom target canvas i))) e;
       }
@@ -265,7 +187,7 @@ module _ (kind : Kind) (left top w h bits : ℕ) (g : Stamped kind left top w h 
         lent = λ n.
             let d = digitsFrom test (0 + k * 8) 8 in
             let s : 0 < d = omega (arith, n) in
-            let q = next (λ i (t : ShapeSums). t) 8 8 d 0 noSums (omega arith) (digits-below test (0 + k * 8) 8) s in
+            let q = first (λ i (t : ShapeSums). t) 8 8 d 0 noSums (omega arith) (digits-below test (0 + k * 8) 8) s in
             let y = here k (trailingZeros 8 d) (q .one) .1 in
             let p : (top + k + 1) * ((w + 1) * 15) ≤ h * ((w + 1) * 15) = mul-le-mul-right ((w + 1) * 15) (omega (arith, y)) in
             let r : h * (w + 1) * 15 ≡ h * ((w + 1) * 15) = mul-assoc h (w + 1) 15 in

@@ -2,7 +2,6 @@
 use mathlib.Core.Path.{_≡_}
 use mathlib.Core.List.{List}
 use Prim.Native.Nat.{ℕ, _+_, _-_, _*_, _/_, _%_, _^_, _≤_, _<_}
-use lib.Bits.{bitAnd}
 use lib.Count.{trailingZeros}
 use lib.Ieee.{Float}
 use Rattle.laws.specs.PixelSums.{addSpan}
@@ -27,10 +26,6 @@ StampIn w left top n b = (j : ℕ) → b / 2 ^ j % 2 ≡ 1 → ((top + j / 8) * 
 -- where the first of them begins, in rows of as many numbers
 abbrev pub firstPlace : ℕ → ℕ → ℕ → ℕ
 firstPlace corner row b = corner + trailingZeros 64 b / 8 * row + trailingZeros 64 b % 8 * 3
-
--- b without its first digit that is 1
-abbrev pub withoutFirst : ℕ → ℕ
-withoutFirst b = bitAnd b (b - 1)
 
 -- a row's run
 abbrev pub stampRow : ℕ → List Float → ℕ → ℕ → ℕ → ShapeSums → ShapeSums

@@ -1,9 +1,10 @@
 -- Laws: the steps over a number's digits, as a loop takes them, and over the digits of a test.
 use mathlib.Core.Path.{_≡_, refl, sym, _∙_, ap, ap₂, subst}
 use mathlib.Core.Bool.{Bool, true, false, cond}
-use Prim.Native.Nat.{ℕ, zero, suc, _+_, _-_, _*_, _/_, _%_, _^_, _≤_, _<_}
+use Prim.Native.Nat.{ℕ, zero, suc, _+_, _-_, _*_, _/_, _%_, _^_, _≤_, _<_, min}
 use native.Mathlib.Nat.{pow-suc, zero-div, mul-comm, mul-assoc, div-div-eq-div-mul}
 use native.Mathlib.Omega.{arith}
+use lib.Bits.{bitAnd, and-step, and-self, and-shr, and-mod, and-le-l}
 use lib.Dec.{eqb}
 use lib.Pow.{shr-shr}
 use lib.Count.{trailingZeros, under}
@@ -11,59 +12,96 @@ use Rattle.laws.specs.Ends.{bit}
 use Rattle.laws.specs.RowFold.{rowsFrom}
 use Rattle.laws.specs.RowFoldLaws.{rows-none}
 use Rattle.stamp.specs.Stamp.{digitsFrom, stampOf}
-use Rattle.stamp.specs.Digits.{digitSteps, rowSteps}
+use Rattle.stamp.specs.Digits.{withoutFirst, digitSteps, rowSteps}
 use Rattle.stamp.specs.StampLaws.{digits-below}
 
--- ---- the next digit that is 1
+-- ---- the first digit that is 1, and the number without it
+without-odd : (b : ℕ) → b % 2 ≡ 1 → withoutFirst b ≡ b / 2 * 2
+without-odd b e =
+    let f : (b - 1) / 2 ≡ b / 2 = omega (arith, e) in
+    let g : (b - 1) % 2 ≡ 0 = omega (arith, e) in
+    let z : b / 2 * 2 + 0 ≡ b / 2 * 2 = omega arith in
+    and-step b (b - 1)
+    ∙ ap (λ (c : ℕ). bitAnd (b / 2) c * 2 + min (b % 2) ((b - 1) % 2)) f
+    ∙ ap₂ (λ (p q : ℕ). bitAnd (b / 2) (b / 2) * 2 + min p q) e g
+    ∙ ap (λ (c : ℕ). c * 2 + 0) (and-self (b / 2))
+    ∙ z
+
+without-even : (b : ℕ) → 0 < b → b % 2 ≡ 0 → withoutFirst b ≡ withoutFirst (b / 2) * 2
+without-even b p e =
+    let f : (b - 1) / 2 ≡ b / 2 - 1 = omega (arith, e) in
+    let g : (b - 1) % 2 ≡ 1 = omega (arith, e) in
+    let z : withoutFirst (b / 2) * 2 + 0 ≡ withoutFirst (b / 2) * 2 = omega arith in
+    and-step b (b - 1)
+    ∙ ap (λ (c : ℕ). bitAnd (b / 2) c * 2 + min (b % 2) ((b - 1) % 2)) f
+    ∙ ap₂ (λ (p q : ℕ). bitAnd (b / 2) (b / 2 - 1) * 2 + min p q) e g
+    ∙ z
+
+-- its digits that are 1 are digits of b
+pub without-digit : (b j : ℕ) → withoutFirst b / 2 ^ j % 2 ≡ 1 → b / 2 ^ j % 2 ≡ 1
+without-digit b j o =
+    let e : withoutFirst b / 2 ^ j % 2 ≡ bitAnd (b / 2 ^ j % 2) ((b - 1) / 2 ^ j % 2) = ap (λ (c : ℕ). c % 2) (and-shr b (b - 1) j) ∙ and-mod (b / 2 ^ j) ((b - 1) / 2 ^ j) 1 in
+    let l = and-le-l (b / 2 ^ j % 2) ((b - 1) / 2 ^ j % 2) in
+    omega (arith, e, l, o)
+
+twice-half : (c : ℕ) → c * 2 / 2 ≡ c
+twice-half c = omega arith
+
+twice-even : (c : ℕ) → c * 2 % 2 ≡ 0
+twice-even c = omega arith
+
+twice-zeros : (k c : ℕ) → trailingZeros (suc k) (c * 2) ≡ suc (trailingZeros k c)
+unfolding trailingZeros
+twice-zeros k c = ap₂ (λ (d e : ℕ). under d (trailingZeros k e)) (twice-even c) (twice-half c)
+
 module _ {E : Type 0} (step : ℕ → E → E) where
-  -- digit z of b is the first that is 1, and the steps go on behind it
-  pub record Next (n b i : ℕ) (s : E) (z : ℕ) : Type 0 where
+  twice-steps : (i n c : ℕ) (s : E) → digitSteps step i (suc n) (c * 2) s ≡ digitSteps step (suc i) n c s
+  unfolding digitSteps
+  twice-steps i n c s = ap₂ (λ (d e : ℕ). digitSteps step (suc i) n e (cond (eqb d 1) (step i s) s)) (twice-even c) (twice-half c)
+
+  -- digit z of b is the first that is 1; without it more zeros come first, and the steps are its step and the others
+  pub record First (k n b i : ℕ) (s : E) (z : ℕ) : Type 0 where
     pub inside : z < n
     pub one : b / 2 ^ z % 2 ≡ 1
-    pub less : b / 2 ^ z / 2 < 2 ^ (n - z - 1)
-    pub steps : digitSteps step i n b s ≡ digitSteps step (i + z + 1) (n - z - 1) (b / 2 ^ z / 2) (step (i + z) s)
+    pub later : suc z ≤ trailingZeros k (withoutFirst b)
+    pub steps : digitSteps step i n b s ≡ digitSteps step i n (withoutFirst b) (step (i + z) s)
 
-  half : (b n : ℕ) → b < 2 ^ suc n → b / 2 < 2 ^ n
-  half b n l = let e = pow-suc 2 n in omega (arith, e)
-
-  odd : (n b i : ℕ) (s : E) → b < 2 ^ suc n → b % 2 ≡ 1 → Next (suc n) b i s 0
+  odd : (k n b i : ℕ) (s : E) → b % 2 ≡ 1 → First (suc k) (suc n) b i s 0
   unfolding digitSteps
-  odd n b i s h e =
+  odd k n b i s e =
       let o : b / 2 ^ 0 ≡ b = omega arith in
-      let m : suc n - 0 - 1 ≡ n = omega arith in
-      let j : i + 0 + 1 ≡ suc i = omega arith in
-      let q : i + 0 ≡ i = omega arith in record {
+      let j : i + 0 ≡ i = omega arith in record {
         inside = omega arith;
         one = rw o e;
-        less = rw (o, m) (half b n h);
-        steps = rw (o, m, j, q, e) refl;
+        later = rw (without-odd b e, twice-zeros k (b / 2)) (omega arith);
+        steps = rw (without-odd b e, twice-steps i n (b / 2) (step (i + 0) s), j, e) refl;
       }
 
-  even : (n b i : ℕ) (s : E) (z : ℕ) → b % 2 ≡ 0 → Next n (b / 2) (suc i) s z → Next (suc n) b i s (suc z)
+  even : (k n b i : ℕ) (s : E) (z : ℕ) → 0 < b → b % 2 ≡ 0 → First k n (b / 2) (suc i) s z → First (suc k) (suc n) b i s (suc z)
   unfolding digitSteps
-  even n b i s z e t =
-      let p : suc z ≡ 1 + z = omega arith in
-      let o : b / 2 ^ suc z ≡ b / 2 / 2 ^ z = ap (λ (k : ℕ). b / 2 ^ k) p ∙ sym (shr-shr b 1 z) in
-      let m : suc n - suc z - 1 ≡ n - z - 1 = omega arith in
-      let j : i + suc z + 1 ≡ suc i + z + 1 = omega arith in
-      let q : i + suc z ≡ suc i + z = omega arith in record {
+  even k n b i s z p e t =
+      let q : suc z ≡ 1 + z = omega arith in
+      let o : b / 2 ^ suc z ≡ b / 2 / 2 ^ z = ap (λ (k : ℕ). b / 2 ^ k) q ∙ sym (shr-shr b 1 z) in
+      let j : i + suc z ≡ suc i + z = omega arith in record {
         inside = omega (arith, t .inside);
         one = rw o (t .one);
-        less = rw (o, m) (t .less);
-        steps = rw (o, m, j, q, e) (t .steps);
+        later = rw (without-even b p e, twice-zeros k (withoutFirst (b / 2))) (omega (arith, t .later));
+        steps = rw (without-even b p e, twice-steps i n (withoutFirst (b / 2)) (step (i + suc z) s), j, e) (t .steps);
       }
 
-  pub next : (k n b i : ℕ) (s : E) → n ≤ k → b < 2 ^ n → 0 < b → Next n b i s (trailingZeros k b)
+  pub first : (k n b i : ℕ) (s : E) → n ≤ k → b < 2 ^ n → 0 < b → First k n b i s (trailingZeros k b)
   unfolding trailingZeros
-  next k zero b i s l h p = absurd (omega arith)
-  next zero (suc n) b i s l h p = absurd (omega arith)
-  next (suc k) (suc n) b i s l h p = by (λ f. next k n (b / 2) (suc i) s (omega arith) (half b n h) f) (b % 2) refl
+  first k zero b i s l h p = absurd (omega arith)
+  first zero (suc n) b i s l h p = absurd (omega arith)
+  first (suc k) (suc n) b i s l h p =
+      let q = pow-suc 2 n in
+      by (λ f. first k n (b / 2) (suc i) s (omega arith) (omega (arith, q)) f) (b % 2) refl
     where
-      by : (0 < b / 2 → Next n (b / 2) (suc i) s (trailingZeros k (b / 2))) → (d : ℕ) → b % 2 ≡ d → Next (suc n) b i s (under (b % 2) (trailingZeros k (b / 2)))
+      by : (0 < b / 2 → First k n (b / 2) (suc i) s (trailingZeros k (b / 2))) → (d : ℕ) → b % 2 ≡ d → First (suc k) (suc n) b i s (under (b % 2) (trailingZeros k (b / 2)))
       by rest zero e =
-          subst (λ (d : ℕ). Next (suc n) b i s (under d (trailingZeros k (b / 2)))) (sym e) (even n b i s (trailingZeros k (b / 2)) e (rest (omega arith)))
-      by rest (suc zero) e = subst (λ (d : ℕ). Next (suc n) b i s (under d (trailingZeros k (b / 2)))) (sym e) (odd n b i s h e)
-      by rest (suc (suc d)) e = absurd (omega arith)
+          subst (λ (d : ℕ). First (suc k) (suc n) b i s (under d (trailingZeros k (b / 2)))) (sym e) (even k n b i s (trailingZeros k (b / 2)) p e (rest (omega (arith, e, p))))
+      by rest (suc zero) e = subst (λ (d : ℕ). First (suc k) (suc n) b i s (under d (trailingZeros k (b / 2)))) (sym e) (odd k n b i s e)
+      by rest (suc (suc d)) e = absurd (omega (arith, e))
 
   -- no digit is left
   pub steps-none : (i n : ℕ) (s : E) → digitSteps step i n 0 s ≡ s

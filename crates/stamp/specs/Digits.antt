@@ -1,7 +1,8 @@
 -- Rules: where a stamp lies, and what a loop over its pixels does: a step for each digit that is 1, or for each row of eight digits. Over any state.
 use mathlib.Core.Bool.{Bool, true, cond}
 use mathlib.Core.Path.{_≡_}
-use Prim.Native.Nat.{ℕ, zero, suc, _+_, _/_, _%_, _^_, _≤_, _<_}
+use Prim.Native.Nat.{ℕ, zero, suc, _+_, _-_, _/_, _%_, _^_, _≤_, _<_}
+use lib.Bits.{bitAnd}
 use lib.Dec.{eqb}
 use Rattle.laws.specs.Ends.{Ends, none, ends, endsOf}
 
@@ -13,6 +14,10 @@ pub record InWindow (p : ℕ → ℕ → Bool) (left top w h : ℕ) : Type 0 whe
 -- digit i of b is 1
 abbrev pub digitIs : ℕ → ℕ → Bool
 digitIs b i = eqb (b / 2 ^ i % 2) 1
+
+-- b without its first digit that is 1
+abbrev pub withoutFirst : ℕ → ℕ
+withoutFirst b = bitAnd b (b - 1)
 
 -- the first and the last digit of a row of eight that is 1, as columns from left on
 abbrev pub moved : ℕ → Ends → Ends

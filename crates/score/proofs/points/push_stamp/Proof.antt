@@ -7,8 +7,9 @@ use lib.Count.{trailingZeros}
 use Rattle.sums.specs.declared.ShapeSums.{ShapeSums}
 use Rattle.sums.specs.Sums.{noSums, plus, pixelSums}
 use Rattle.score.specs.Scoring.{pixelFrom}
+use Rattle.stamp.specs.Digits.{withoutFirst}
 use Rattle.score.specs.Paired.{unpairedOf}
-use Rattle.score.specs.StampSums.{stampPoints, StampIn, firstPlace, withoutFirst}
+use Rattle.score.specs.StampSums.{stampPoints, StampIn, firstPlace}
 use Rattle.score.specs.StampSumLaws.{Turn, turn, done, corner-small}
 use Rattle.score.specs.ScoringLaws.{no-count}
 use borrow.Author.Needs.{needs}

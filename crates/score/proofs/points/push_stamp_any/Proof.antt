@@ -6,8 +6,9 @@ use lib.Count.{trailingZeros}
 use Rattle.sums.specs.declared.ShapeSums.{ShapeSums}
 use Rattle.sums.specs.Sums.{plus, pixelSums}
 use Rattle.score.specs.Scoring.{pixelFrom}
+use Rattle.stamp.specs.Digits.{withoutFirst}
 use Rattle.score.specs.Paired.{unpairedOf}
-use Rattle.score.specs.StampSums.{stampPoints, StampIn, withoutFirst}
+use Rattle.score.specs.StampSums.{stampPoints, StampIn}
 use Rattle.score.specs.StampSumLaws.{Turn, turn, done, corner-small}
 use borrow.Author.Needs.{needs}
 use native.Mathlib.Omega.{arith}
