@@ -22,7 +22,8 @@ use Rattle.grade.specs.declared.Scored.{Scored}
 use Rattle.grade.specs.declared.Scored.the-variants.{Done, Refused}
 use Rattle.score.specs.declared.Request.the-variants.{Opacity}
 use Rattle.grade.specs.AlphaSweep.{badLevels}
-use Rattle.score.specs.Scoring.{spanRefusal, pointRefusal, spanSums, pointSums, scoreAt}
+use Rattle.gather.specs.Gathered.{spanSums, pointSums}
+use Rattle.score.specs.Scoring.{spanRefusal, pointRefusal, scoreAt}
 use Rattle.grade.specs.Finalize.{finalized}
 use Rattle.grade.specs.Answered as scoring
 use Rattle.capi.specs.declared.SillbadgerAnswer.{SillbadgerAnswer}

@@ -19,7 +19,8 @@ use Rattle.grade.specs.declared.Scored.the-variants.{Done, Refused}
 use Rattle.score.specs.declared.Request.{Request}
 use Rattle.score.specs.declared.Request.the-variants.{Levels}
 use Rattle.grade.specs.Finalize.{finalized}
-use Rattle.score.specs.Scoring.{spanSums, pointSums, scoreAt, spanRefusal, pointRefusal}
+use Rattle.gather.specs.Gathered.{spanSums, pointSums}
+use Rattle.score.specs.Scoring.{scoreAt, spanRefusal, pointRefusal}
 use Rattle.crossing.specs.Outlines.{kindOf}
 use Rattle.capi.specs.declared.SillbadgerAnswer.{SillbadgerAnswer}
 use Rattle.capi.specs.Answers.{refusedBy, shapeless, withScore, answered}

@@ -37,7 +37,8 @@ use Rattle.grade.specs.Levels.{levels, levelsRefusal, AlphaLevelsSays}
 use Rattle.grade.specs.Swept.{swept}
 use Rattle.grade.specs.Answered.{answered}
 use Rattle.grade.specs.AlphaSweep.{badLevels, sweepRefusal, AlphaSweepSays}
-use Rattle.score.specs.Scoring.{badCount, badOpacity, spanSums, pointSums, scoreAt, spanRefusal, pointRefusal, spanSumsRefusal, pointSumsRefusal, collected, CollectSpanSumsSays, CollectPointSumsSays, SpanScoreSays, PointScoreSays}
+use Rattle.gather.specs.Gathered.{spanSums, pointSums}
+use Rattle.score.specs.Scoring.{badCount, badOpacity, scoreAt, spanRefusal, pointRefusal, spanSumsRefusal, pointSumsRefusal, collected, CollectSpanSumsSays, CollectPointSumsSays, SpanScoreSays, PointScoreSays}
 use Rattle.picture.specs.declared.Colour.{Colour}
 use Rattle.picture.specs.declared.Mean.{Mean}
 use Rattle.picture.specs.declared.Total.{Total}

@@ -22,7 +22,7 @@ use Rattle.picture.specs.PaintingLaws.{painted-at}
 use Rattle.table.specs.Layout.{placeOf}
 use Rattle.table.specs.Table.{BuildSays}
 use Rattle.table.specs.ReadLaws.{pixelOf, table-place}
-use Rattle.score.specs.Scoring.{spanSums}
+use Rattle.gather.specs.Gathered.{spanSums}
 use Rattle.demands.specs.declared.Call.{Call}
 use Rattle.demands.specs.PaintCalls.{State, Paints, Afresh, OutsideReach, SameRow, summed, timesSummed, repeated}
 use Rattle.demands.specs.KeepLaws.{KeptState, built-kept, kept-afresh, keeps, same-row}

@@ -19,9 +19,10 @@ use Rattle.grade.specs.declared.Scored.the-variants.{Done, Refused}
 use Rattle.grade.specs.Finalize.{noScore, finalized}
 use Rattle.grade.specs.Sweep.{Found, nowhere, at, bestOf}
 use Rattle.grade.specs.Swept.{level, changeOf, sweptAt, swept}
-use Rattle.score.specs.CountLaws.{spans-count, points-count}
+use Rattle.gather.specs.CountLaws.{spans-count, points-count}
 use Rattle.grade.specs.Answered.{answered}
-use Rattle.score.specs.Scoring.{spanSums, pointSums, scoreAt, spanRefusal, pointRefusal, SpanScoreSays, PointScoreSays}
+use Rattle.gather.specs.Gathered.{spanSums, pointSums}
+use Rattle.score.specs.Scoring.{scoreAt, spanRefusal, pointRefusal, SpanScoreSays, PointScoreSays}
 
 -- ---- the count of a span score and of a point score
 

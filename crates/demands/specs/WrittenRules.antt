@@ -45,7 +45,8 @@ use Rattle.grade.specs.declared.Scored.the-variants.{Done, Refused}
 use Rattle.grade.specs.Finalize.{rest, countOf, colourOf, colourAt, beforeAt, afterAt, wideChange, noScore, finalized}
 use Rattle.grade.specs.Levels.{levels, levelAt, levelsRefusal, AlphaLevelsSays}
 use Rattle.grade.specs.Answered.{answered}
-use Rattle.score.specs.Scoring.{spanSums, pointSums, scoreAt, spanRefusal, pointRefusal, SpanScoreSays, PointScoreSays}
+use Rattle.gather.specs.Gathered.{spanSums, pointSums}
+use Rattle.score.specs.Scoring.{scoreAt, spanRefusal, pointRefusal, SpanScoreSays, PointScoreSays}
 use Rattle.picture.specs.declared.Colour.{Colour}
 use Rattle.picture.specs.declared.Mean.{Mean}
 use Rattle.picture.specs.declared.Total.{Total}

@@ -17,16 +17,8 @@ use Rattle.score.specs.declared.Collected.{Collected}
 use Rattle.grade.specs.Swept.{swept}
 use Rattle.grade.specs.Answered.{answered}
 use Rattle.grade.specs.AlphaSweep.{sweepRefusal}
-use Rattle.score.specs.Scoring.{
-  collected,
-  spanRefusal,
-  pointRefusal,
-  spanSumsRefusal,
-  pointSumsRefusal,
-  spanSums,
-  pointSums,
-  scoreAt,
-}
+use Rattle.gather.specs.Gathered.{spanSums, pointSums}
+use Rattle.score.specs.Scoring.{collected, spanRefusal, pointRefusal, spanSumsRefusal, pointSumsRefusal, scoreAt}
 use Rattle.sums.specs.declared.ShapeSums.{ShapeSums}
 use Rattle.grade.specs.declared.Score.{Score}
 use Rattle.grade.specs.Levels.{AlphaLevelsSays}

@@ -65,17 +65,22 @@ module _ (target canvas : List Float) where
   length-row whole w row e = length-putRows 15 (w + 1) (placeAt whole target canvas) (keeps-place whole w) 0 (w + 1) row (omega arith) (omega arith) e
 
 -- a row begins with sums of no pixel
-pub row-begins : (w : ℕ) (target canvas old : List Float) → length old ≡ (w + 1) * 15 → getD (rowOf false w target canvas old) 6 nan ≡ nought
+pub row-begins : (whole : Bool) (w : ℕ) (target canvas old : List Float) → length old ≡ (w + 1) * 15 → getD (rowOf whole w target canvas old) 6 nan ≡ nought
 unfolding placeAt noSums
-row-begins w target canvas old e =
+row-begins whole w target canvas old e =
     let p = cut 15 0 old in
     let l : 6 ≤ length p = omega (arith, length-cut 15 0 (w + 1) old e (omega arith)) in
-    let six : 6 ≡ length (take 6 p) + 0 = omega (arith, length-take-le 6 p l) in
-    sym (getD-cut 15 0 6 (rowOf false w target canvas old) nan (omega arith))
-    ∙ ap (λ (q : List Float). getD q 6 nan) (cut-inside 15 (w + 1) (placeAt false target canvas) (keeps-place target canvas false w) 0 (w + 1) 0 old (omega arith) e (omega arith) (omega arith))
-    ∙ ap (λ (i : ℕ). getD (take 6 p ++ canvasNine (sumsAt target canvas 0)) i nan) six
-    ∙ getD-append-add (take 6 p) (canvasNine (sumsAt target canvas 0)) 0 nan
+    let front = cond whole (targetSix (sumsAt target canvas 0)) (take 6 p) in
+    let six : 6 ≡ length front + 0 = omega (arith, six-long whole (sumsAt target canvas 0) p l) in
+    sym (getD-cut 15 0 6 (rowOf whole w target canvas old) nan (omega arith))
+    ∙ ap (λ (q : List Float). getD q 6 nan) (cut-inside 15 (w + 1) (placeAt whole target canvas) (keeps-place target canvas whole w) 0 (w + 1) 0 old (omega arith) e (omega arith) (omega arith))
+    ∙ ap (λ (i : ℕ). getD (front ++ canvasNine (sumsAt target canvas 0)) i nan) six
+    ∙ getD-append-add front (canvasNine (sumsAt target canvas 0)) 0 nan
     ∙ ap (λ (s : ShapeSums). channel (s .«s_c») 0) (sym (sums-none target canvas))
+  where
+    six-long : (b : Bool) (s : ShapeSums) (p : List Float) → 6 ≤ length p → length (cond b (targetSix s) (take 6 p)) ≡ 6
+    six-long true s p l = refl
+    six-long false s p l = length-take-le 6 p l
 
 -- a row on the way: `start` has place 0 written, `row` the places to x, and s is the sums of the pixels before x
 pub record Written (whole : Bool) (w : ℕ) (target canvas start : List Float) (x : ℕ) (s : ShapeSums) (row : List Float) : Type 0 where

@@ -28,11 +28,14 @@ pub fn rebuild_row(
 {
     let mut s = ShapeSums::new();
     put(&mut row[0..15], s, whole);
+    let mut seen = 0.0;
     for x in 0..w {
         s = step(s, target, canvas, x, numbers);
         let a = (x + 1) * 15;
+        seen = read_here(seen, row, a);
         put(&mut row[a..a + 15], s, whole);
     }
+    keep_reads(row, seen);
 }
 
 // The nine that read the canvas, of rows without a NaN, in a loop of its own: there the compiler leaves the other six sums out.
@@ -53,15 +56,29 @@ pub fn update_row(row: &mut [f64], target: &[f32], canvas: &[f32], w: usize)
     keep_reads(row, seen);
 }
 
-// In a wide row a number before and the last of those that are written at a are read before. Such a table is larger than the near
-// caches, and lines that are read are fetched ahead of their turn; lines that are only written are not.
+// Numbers at two places, of each line of memory that is to be written one at least. A large table lies beyond the near caches, and lines that
+// are read are fetched ahead of their turn; lines that are only written are not.
+fn read_both(row: &[f64], i: usize, k: usize) -> f64
+    requires { ⌜ (i < length (now row)) × (k < length (now row)) ⌝ }
+{
+    row[i] + row[k]
+}
+
+// Two of those that are written at a, eight numbers apart.
+fn read_here(seen: f64, row: &[f64], a: usize) -> f64
+    requires { ⌜ a + 15 ≤ length (now row) ⌝ }
+{
+    seen + read_both(row, a, a + 8)
+}
+
+// In a wide row a number before and the last of those that are written at a.
 fn read_before(seen: f64, row: &[f64], a: usize, w: usize) -> f64
     requires { ⌜ a + 15 ≤ length (now row) ⌝ }
 {
     if w <= 64 {
         return seen;
     }
-    seen + (row[a + 5] + row[a + 14])
+    seen + read_both(row, a + 5, a + 14)
 }
 
 // A number that is 0 is written once more where what was read is a NaN. Were nothing done with what was read, the compiler would leave

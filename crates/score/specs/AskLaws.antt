@@ -15,10 +15,10 @@ use Rattle.cover.specs.Cover.{badPlaces}
 use Rattle.cover.specs.ReachRows.{ReachRowsSays}
 use Rattle.cover.specs.Stamps.{Stamped}
 use Rattle.score.specs.Usual.{Usual}
-use Rattle.score.specs.RunSums.{Reached}
-use Rattle.score.specs.ScoringLaws.{some-reached}
-use Rattle.score.specs.StampSums.{StampIn, RowsIn}
-use Rattle.score.specs.StampSumLaws.{near, stamp-in, rows-in}
+use Rattle.gather.specs.RunSums.{Reached}
+use Rattle.gather.specs.RunSumLaws.{some-reached}
+use Rattle.gather.specs.StampSums.{StampIn, RowsIn}
+use Rattle.gather.specs.StampSumLaws.{near, stamp-in, rows-in}
 use Rattle.score.specs.CallLaws.{usual-rows, table-length, picture-lengths}
 
 -- a stamp is tried

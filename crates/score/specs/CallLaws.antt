@@ -28,12 +28,13 @@ use Rattle.score.specs.declared.Collected.{Collected}
 use Rattle.sums.specs.declared.ShapeSums.{ShapeSums}
 use Rattle.sums.specs.Sums.{noSums}
 use Rattle.refusal.specs.ThreeTests as three
-use Rattle.score.specs.ScoringLaws.{no-count, none-spans, none-points, none-reached}
+use Rattle.gather.specs.RunSumLaws.{no-count, none-spans, none-points, none-reached}
 use Rattle.cover.specs.declared.reached.Rows.{Rows}
 use Rattle.cover.specs.ReachRows.{ReachRowsSays}
 use Rattle.float.specs.Within.{within}
 use Rattle.score.specs.Usual.{Usual}
-use Rattle.score.specs.Scoring.{SpanScoreSays, PointScoreSays, spanSums, pointSums, scoreAt, badCount, badOpacity, spanRefusal, pointRefusal, spanSumsRefusal, pointSumsRefusal, noneCollected, collected, CollectSpanSumsSays, CollectPointSumsSays}
+use Rattle.gather.specs.Gathered.{spanSums, pointSums}
+use Rattle.score.specs.Scoring.{SpanScoreSays, PointScoreSays, scoreAt, badCount, badOpacity, spanRefusal, pointRefusal, spanSumsRefusal, pointSumsRefusal, noneCollected, collected, CollectSpanSumsSays, CollectPointSumsSays}
 
 pub or-first : (a b : Bool) → a ≡ true → a || b ≡ true
 or-first a b h = ap (λ (t : Bool). t || b) h

@@ -1,10 +1,5 @@
 pub mod Scoring
 pub mod Usual
-pub mod RunSums
-pub mod StampSums
-pub mod Paired
 pub mod ScoringLaws
-pub mod StampSumLaws
 pub mod CallLaws
-pub mod CountLaws
 pub mod AskLaws

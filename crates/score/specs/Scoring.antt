@@ -1,22 +1,21 @@
--- Rules: document 01, "A shape is scored at one given opacity or over a list of levels", by spans and by points, and what is refused.
+-- Rules: document 01, "A shape is scored at one given opacity or over a list of levels", from its sums by spans or by points, and what is refused.
 use mathlib.Core.Path.{_≡_}
 use mathlib.Core.Bool.{Bool, false, not, _||_, cond}
 use mathlib.Core.List.{List, [], _∷_}
-use Prim.Native.Nat.{ℕ, _+_, _*_}
+use Prim.Native.Nat.{ℕ}
 use lib.Dec.{eqb}
-use lib.ListN.{length, getD}
-use lib.Ieee.{Float, nan}
-use Rattle.laws.specs.PixelSums.{spanSum, pointSum}
+use lib.ListN.{length}
+use lib.Ieee.{Float}
 use Rattle.refusal.specs.Refusals.{Test, lowest, sizeIf, lengthIf, countIf, placeIf, opacityIf, badSize}
 use Rattle.refusal.specs.Lengths.{badPicture, badTable}
 use Rattle.float.specs.Within.{within}
 use lib.IntN.{ℤ}
 use Rattle.cover.specs.declared.Kind.{Kind}
 use Rattle.cover.specs.declared.Kind.the-variants.{Circle, Triangle}
-use Rattle.cover.specs.Cover.{covered, badPlaces}
+use Rattle.cover.specs.Cover.{badPlaces}
 use Rattle.sums.specs.declared.ShapeSums.{ShapeSums}
-use Rattle.sums.specs.Sums.{noSums, pixelSums, plus, minus}
-use Rattle.table.specs.Layout.{placeOf}
+use Rattle.sums.specs.Sums.{noSums}
+use Rattle.gather.specs.Gathered.{spanSums, pointSums}
 use Rattle.grade.specs.declared.Score.{Score}
 use Rattle.grade.specs.declared.Scored.{Scored}
 use Rattle.grade.specs.Finalize.{finalized}
@@ -26,23 +25,6 @@ use Rattle.grade.specs.AlphaSweep.{badLevels, badLevelCount, badFirstLevels}
 use Rattle.score.specs.declared.Request.{Request}
 use Rattle.score.specs.declared.Request.the-variants.{Opacity, Levels}
 use Rattle.score.specs.declared.Collected.{Collected}
-
--- ---- the sums of a shape
--- by spans: the right place minus the left, per row, from the top row down
-unfoldable pub spanSums : Kind → ℕ → ℕ → List Float → ShapeSums
-spanSums kind w h table = spanSum noSums plus minus (placeOf w table) (covered kind) w h
-
--- the pixel whose channels begin at place i; pixel x of row y
-abbrev pub pixelFrom : List Float → List Float → ℕ → ShapeSums
-pixelFrom target canvas i =
-    pixelSums (getD target i nan) (getD target (i + 1) nan) (getD target (i + 2) nan) (getD canvas i nan) (getD canvas (i + 1) nan) (getD canvas (i + 2) nan)
-
-abbrev pub pixelAt : ℕ → List Float → List Float → ℕ → ℕ → ShapeSums
-pixelAt w target canvas y x = pixelFrom target canvas ((y * w + x) * 3)
-
--- by points: pixel by pixel, in row order
-unfoldable pub pointSums : Kind → ℕ → ℕ → List Float → List Float → ShapeSums
-pointSums kind w h target canvas = pointSum noSums plus minus (pixelAt w target canvas) (covered kind) w h
 
 -- ---- the request
 unfoldable pub scoreAt : ShapeSums → Request → List Float → Score

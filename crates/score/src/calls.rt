@@ -72,11 +72,11 @@ pub fn span_score(
         if (bottom - top <= 8) & (left < w) {
             let bits = cover::stamps::stamp_of(kind, left, top, w, h);
             if bits != 0 {
-                let few = crate::spans::add_stamp(bits, left, top, table, w);
+                let few = gather::spans::add_stamp(bits, left, top, table, w);
                 return done(grade::finalize(few, opacity));
             }
         }
-        let sums = crate::spans::reached_sums(kind, top, bottom, w, h, table);
+        let sums = gather::spans::reached_sums(kind, top, bottom, w, h, table);
         return done(grade::finalize(sums, opacity));
     }
     tested_span_score(kind, request, levels, w, h, table)
@@ -97,7 +97,7 @@ fn tested_span_score(
     if no != 0 {
         return Scored::Refused(no);
     }
-    let sums = crate::spans::span_sums(kind, w, h, table);
+    let sums = gather::spans::span_sums(kind, w, h, table);
     Scored::Done(score_at(sums, request, levels))
 }
 
@@ -116,7 +116,7 @@ fn tested_point_score(
     if no != 0 {
         return Scored::Refused(no);
     }
-    let sums = crate::points::point_sums(kind, w, h, target, canvas);
+    let sums = gather::points::point_sums(kind, w, h, target, canvas);
     Scored::Done(score_at(sums, request, levels))
 }
 
@@ -155,18 +155,11 @@ pub fn circle_point_score(
         if (bottom - top <= 8) & (left < w) {
             let bits = cover::stamps::circle_stamp(cx, cy, r, left, top, w, h);
             if bits != 0 {
-                let few = crate::points::unpaired(crate::points::push_stamp(
-                    bits,
-                    left,
-                    top,
-                    target,
-                    canvas,
-                    w,
-                ));
+                let few = gather::points::stamp_sums(bits, left, top, target, canvas, w);
                 return done(grade::finalize(few, opacity));
             }
         }
-        let sums = crate::points::reached_sums(kind, top, bottom, w, h, target, canvas);
+        let sums = gather::points::reached_sums(kind, top, bottom, w, h, target, canvas);
         return done(grade::finalize(sums, opacity));
     }
     tested_point_score(kind, request, levels, w, h, target, canvas)
@@ -210,18 +203,11 @@ pub fn triangle_point_score(
         if (bottom - top <= 8) & (left < w) {
             let bits = cover::stamps::triangle_stamp(x0, y0, x1, y1, x2, y2, left, top, w, h);
             if bits != 0 {
-                let few = crate::points::unpaired(crate::points::push_stamp(
-                    bits,
-                    left,
-                    top,
-                    target,
-                    canvas,
-                    w,
-                ));
+                let few = gather::points::stamp_sums(bits, left, top, target, canvas, w);
                 return done(grade::finalize(few, opacity));
             }
         }
-        let sums = crate::points::reached_sums(kind, top, bottom, w, h, target, canvas);
+        let sums = gather::points::reached_sums(kind, top, bottom, w, h, target, canvas);
         return done(grade::finalize(sums, opacity));
     }
     tested_point_score(kind, request, levels, w, h, target, canvas)
@@ -265,14 +251,14 @@ pub fn collect_span_sums(kind: Kind, w: usize, h: usize, table: &[f64]) -> Colle
         if (bottom - top <= 8) & (left < w) {
             let bits = cover::stamps::stamp_of(kind, left, top, w, h);
             if bits != 0 {
-                let few = crate::spans::add_stamp(bits, left, top, table, w);
+                let few = gather::spans::add_stamp(bits, left, top, table, w);
                 return Collected {
                     sums: few,
                     refused: 0,
                 };
             }
         }
-        let gathered = crate::spans::reached_sums(kind, top, bottom, w, h, table);
+        let gathered = gather::spans::reached_sums(kind, top, bottom, w, h, table);
         return Collected {
             sums: gathered,
             refused: 0,
@@ -289,7 +275,7 @@ fn tested_span_sums(kind: Kind, w: usize, h: usize, table: &[f64]) -> Collected
     if no != 0 {
         return no_sums(no);
     }
-    let sums = crate::spans::span_sums(kind, w, h, table);
+    let sums = gather::spans::span_sums(kind, w, h, table);
     Collected {
         sums: sums,
         refused: 0,
@@ -303,7 +289,7 @@ fn tested_point_sums(kind: Kind, w: usize, h: usize, target: &[f32], canvas: &[f
     if no != 0 {
         return no_sums(no);
     }
-    let sums = crate::points::point_sums(kind, w, h, target, canvas);
+    let sums = gather::points::point_sums(kind, w, h, target, canvas);
     Collected {
         sums: sums,
         refused: 0,
@@ -334,21 +320,14 @@ pub fn collect_circle_sums(
         if (bottom - top <= 8) & (left < w) {
             let bits = cover::stamps::circle_stamp(cx, cy, r, left, top, w, h);
             if bits != 0 {
-                let few = crate::points::unpaired(crate::points::push_stamp(
-                    bits,
-                    left,
-                    top,
-                    target,
-                    canvas,
-                    w,
-                ));
+                let few = gather::points::stamp_sums(bits, left, top, target, canvas, w);
                 return Collected {
                     sums: few,
                     refused: 0,
                 };
             }
         }
-        let sums = crate::points::reached_sums(kind, top, bottom, w, h, target, canvas);
+        let sums = gather::points::reached_sums(kind, top, bottom, w, h, target, canvas);
         return Collected {
             sums: sums,
             refused: 0,
@@ -384,21 +363,14 @@ pub fn collect_triangle_sums(
         if (bottom - top <= 8) & (left < w) {
             let bits = cover::stamps::triangle_stamp(x0, y0, x1, y1, x2, y2, left, top, w, h);
             if bits != 0 {
-                let few = crate::points::unpaired(crate::points::push_stamp(
-                    bits,
-                    left,
-                    top,
-                    target,
-                    canvas,
-                    w,
-                ));
+                let few = gather::points::stamp_sums(bits, left, top, target, canvas, w);
                 return Collected {
                     sums: few,
                     refused: 0,
                 };
             }
         }
-        let sums = crate::points::reached_sums(kind, top, bottom, w, h, target, canvas);
+        let sums = gather::points::reached_sums(kind, top, bottom, w, h, target, canvas);
         return Collected {
             sums: sums,
             refused: 0,

@@ -1,9 +1,7 @@
-// Scores of shapes: the sums over a shape's pixels, by spans and by points, and the calls that test, sum and score.
+// Scores of shapes: the calls that test what is lent, take the sums over a shape's pixels, by spans or by points, and score.
 use sums::ShapeSums;
 
 pub mod calls;
-mod points;
-mod spans;
 mod tests;
 
 // What a shape is scored at: one opacity, or the first of the lent levels, so many.

@@ -13,7 +13,7 @@ use Rattle.cover.specs.Cover.{badPlaces}
 use Rattle.grade.specs.declared.Scored.{Scored}
 use Rattle.grade.specs.Finalize.{finalized}
 use Rattle.grade.specs.Answered.{answered}
-use Rattle.score.specs.Scoring.{spanSums}
+use Rattle.gather.specs.Gathered.{spanSums}
 use Rattle.lines.specs.Hex.{malformed}
 use Rattle.table.specs.Table.{Table}
 use Rattle.frame.specs.Frames as frames

@@ -18,7 +18,7 @@ use Rattle.sums.specs.declared.ShapeSums.{ShapeSums}
 use Rattle.sums.specs.Sums.{noSums, plus, minus}
 use Rattle.grade.specs.declared.Score.{Score}
 use Rattle.grade.specs.Finalize.{finalized}
-use Rattle.score.specs.Scoring.{pixelAt}
+use Rattle.gather.specs.Gathered.{pixelAt}
 use Rattle.picture.specs.Pixels.{filled, totalOf}
 use Rattle.picture.specs.Painting.{painted}
 use Rattle.lines.specs.Hex.{malformed}

@@ -22,7 +22,7 @@ use Rattle.grade.specs.declared.Scored as scores
 use Rattle.grade.specs.declared.Scored.the-variants as scored
 use Rattle.grade.specs.Finalize.{finalized}
 use Rattle.grade.specs.Answered.{answered}
-use Rattle.score.specs.Scoring.{spanSums}
+use Rattle.gather.specs.Gathered.{spanSums}
 use Rattle.picture.specs.Pixels.{filled, totalOf}
 use Rattle.picture.specs.Painting.{painted}
 use Rattle.lines.specs.Hex.{malformed}

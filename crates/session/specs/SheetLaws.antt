@@ -44,7 +44,8 @@ use Rattle.score.specs.declared.Request.the-variants.{Opacity}
 use Rattle.grade.specs.Finalize.{finalized}
 use Rattle.grade.specs.Answered.{answered}
 use Rattle.grade.specs.AlphaSweep.{badLevels}
-use Rattle.score.specs.Scoring.{spanSums, pixelAt, spanRefusal, scoreAt}
+use Rattle.gather.specs.Gathered.{spanSums, pixelAt}
+use Rattle.score.specs.Scoring.{spanRefusal, scoreAt}
 use Rattle.picture.specs.Painting.{painted}
 use Rattle.picture.specs.PaintingLaws.{painted-spares, length-painted}
 use Rattle.picture.specs.Pixels.{badColour, filled}

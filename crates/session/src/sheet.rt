@@ -11,7 +11,7 @@ ghost use Rattle.float.specs.Within.{nought, within, allWithin};
 ghost use Rattle.cover.specs.Cover.{badPlaces};
 ghost use Rattle.grade.specs.Finalize.{finalized};
 ghost use Rattle.grade.specs.Answered.{answered};
-ghost use Rattle.score.specs.Scoring.{spanSums};
+ghost use Rattle.gather.specs.Gathered.{spanSums};
 ghost use Rattle.picture.specs.Pixels.{filled, totalOf};
 ghost use Rattle.picture.specs.Painting.{painted};
 ghost use Rattle.session.specs.Session.{channel};

@@ -1,7 +1,8 @@
 -- What `collect_span_sums` promises, as C has it.
 use mathlib.Core.Path.{_∙_, ap}
 use Rattle.cover.specs.declared.Kind.{Kind}
-use Rattle.score.specs.Scoring.{collected, spanSumsRefusal, spanSums}
+use Rattle.gather.specs.Gathered.{spanSums}
+use Rattle.score.specs.Scoring.{collected, spanSumsRefusal}
 use Rattle.probe_score.specs.Probes.{gatheredOf}
 use mir.Facts.{toZ-ofZ}
 use borrow.Author.Needs.{needs}

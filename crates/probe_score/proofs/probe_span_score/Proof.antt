@@ -3,7 +3,8 @@ use mathlib.Core.Path.{_∙_, ap, ap₂}
 use Rattle.cover.specs.declared.Kind.{Kind}
 use Rattle.score.specs.declared.Request.{Request}
 use Rattle.grade.specs.Answered.{answered}
-use Rattle.score.specs.Scoring.{spanRefusal, spanSums, scoreAt}
+use Rattle.gather.specs.Gathered.{spanSums}
+use Rattle.score.specs.Scoring.{spanRefusal, scoreAt}
 use Rattle.probe_score.specs.Probes.{answerOf}
 use mir.Facts.{toZ-ofZ}
 use borrow.Author.Needs.{needs}

@@ -1,20 +1,24 @@
 -- `rebuild_row`: place by place (`Written`).
 use mathlib.Core.Path.{_≡_, sym, ap, _∙_}
 use Prim.Native.Nat.{_+_, _-_, _*_}
+use mathlib.Core.List.{List}
+use lib.ListN.{length, getD}
 use lib.Seq.{length-take-le}
+use lib.Ieee.{Float, nan}
+use Rattle.rows.specs.Places.{rowOf}
 use Rattle.laws.specs.RowLaws.{length-part}
 use Rattle.sums.specs.declared.ShapeSums.{ShapeSums}
-use Rattle.rows.specs.PlaceLaws.{sums-count, Written, written-size, written-first, written-more, written-all}
+use Rattle.rows.specs.PlaceLaws.{sums-count, Written, written-size, written-first, written-more, written-all, row-begins}
 use borrow.Author.Needs.{needs}
 use native.Mathlib.Omega.{arith}
 use Rattle.rows.proofs.rebuild_row.Statement.{statement}
 use Rattle.rows.proofs.rebuild_row.Tie as tie
 
 abbrev Inv-loop : tie.InvT-loop
-Inv-loop row₀ target canvas w whole numbers s₀ x₀ row s x = Written whole w target canvas row₀ x s row
+Inv-loop row₀ target canvas w whole numbers s₀ seen₀ x₀ row s seen x = Written whole w target canvas row₀ x s row
 
 abbrev μ-loop : tie.MeasureT-loop
-μ-loop row₀ target canvas w whole numbers s₀ x₀ row s x = w - x
+μ-loop row₀ target canvas w whole numbers s₀ seen₀ x₀ row s seen x = w - x
 
 new-requires : tie.Need-new-requires Inv-loop μ-loop
 new-requires c κs = search needs
@@ -50,6 +54,9 @@ add-a c = search needs
 mul-a : tie.Need-mul-a Inv-loop μ-loop
 mul-a c = search needs
 
+read-here-requires : tie.Need-read-here-requires Inv-loop μ-loop
+read-here-requires c κs = let l = c .before .before .before .loop in omega (arith, written-size _ _ _ _ (l .inv))
+
 add-put : tie.Need-add-put Inv-loop μ-loop
 add-put c = search needs
 
@@ -63,31 +70,50 @@ part-put-start-2 : tie.Need-part-put-start-2 Inv-loop μ-loop
 part-put-start-2 c = search needs
 
 part-put-end-2 : tie.Need-part-put-end-2 Inv-loop μ-loop
-part-put-end-2 c = omega (arith, written-size _ _ _ _ (c .before .before .loop .inv))
+part-put-end-2 c = omega (arith, written-size _ _ _ _ (c .before .before .before .before .loop .inv))
 
 put-requires-2 : tie.Need-put-requires-2 Inv-loop μ-loop
-put-requires-2 c κs = let l = c .before .before .before .loop in length-part ((l .x + 1) * 15) 15 (l .row) (omega (arith, written-size _ _ _ _ (l .inv)))
+put-requires-2 c κs = let l = c .before .before .before .before .before .loop in length-part ((l .x + 1) * 15) 15 (l .row) (omega (arith, written-size _ _ _ _ (l .inv)))
 
 add-x : tie.Need-add-x Inv-loop μ-loop
-add-x c = omega (arith, c .before .before .before .before .before .before .before .before .before .before .before .before .before .before .before .pre .0 .narrow)
+add-x c = omega (arith, c .before .before .before .before .before .before .before .before .before .before .before .before .before .before .before .before .before .pre .0 .narrow)
 
 loop-less : tie.Need-loop-less Inv-loop μ-loop
 loop-less c = search needs
 
 loop-again : tie.Need-loop-again Inv-loop μ-loop
 loop-again c =
-    let a = c .before .before .before .before .before .before .before .before .before .before .before .before .before .before .before .args in
-    let l = c .before .before .before .before .before .before .loop in
-    written-more (a .whole) (a .w) (a .target .now) (a .canvas .now) (l .inv) (omega arith) _ (c .before .before .put2 .last .0) (c .before .before .before .before .step .ensures) (c .before .before .put2 .ensures)
+    let a = c .before .before .before .before .before .before .before .before .before .before .before .before .before .before .before .before .before .args in
+    let l = c .before .before .before .before .before .before .before .before .loop in
+    written-more (a .whole) (a .w) (a .target .now) (a .canvas .now) (l .inv) (omega arith) _ (c .before .before .put2 .last .0) (c .before .before .before .before .before .before .step .ensures) (c .before .before .put2 .ensures)
+
+-- after the loop the row is done
+module _ (c : tie.After-loop Inv-loop μ-loop) where
+  abbrev start : tie.Start Inv-loop μ-loop
+  start = c .before .before .before .before .before .before .before .before .before .before
+
+  done : c .before .loop .row ≡ rowOf (start .args .whole) (start .args .w) (start .args .target .now) (start .args .canvas .now) (start .args .row .now)
+  done =
+      let s = c .before .before in
+      let a = start .args in
+      written-all (a .whole) (a .w) (a .target .now) (a .canvas .now) (a .row .now) (s .before .before .put .last .0) _ (s .before .before .before .before .new .ensures) (s .before .before .put .ensures) (c .before .loop .inv) (omega arith)
+
+  long : length (c .before .loop .row) ≡ (start .args .w + 1) * 15
+  long = written-size _ _ _ _ (c .before .loop .inv)
+
+keep-reads-requires : tie.Need-keep-reads-requires Inv-loop μ-loop
+keep-reads-requires c κs =
+    let s = start (c .before) in
+    let a = s .args in
+    (omega (arith, long (c .before)), ap (λ (l : List Float). getD l 6 nan) (done (c .before)) ∙ row-begins (a .whole) (a .w) (a .target .now) (a .canvas .now) (a .row .now) (s .pre .0 .places))
 
 same-length : tie.Need-same-length Inv-loop μ-loop
-same-length c = written-size _ _ _ _ (c .before .loop .inv) ∙ sym (c .before .before .before .before .before .before .before .before .before .before .pre .0 .places)
+same-length c =
+    let e = c .before .before .before .before in
+    ap length (c .before .before .keep-reads .ensures) ∙ long e ∙ sym (start e .pre .0 .places)
 
 returns : tie.Need-returns Inv-loop μ-loop
-returns c =
-    let s = c .before .before in
-    let a = s .before .before .before .before .before .before .before .before .args in
-    written-all (a .whole) (a .w) (a .target .now) (a .canvas .now) (a .row .now) (s .before .before .put .last .0) _ (s .before .before .before .before .new .ensures) (s .before .before .put .ensures) (c .before .loop .inv) (omega arith)
+returns c = c .before .before .keep-reads .ensures ∙ done (c .before .before .before .before)
 
 pub rebuild-row-spec : {M : Type 1} → statement M
 rebuild-row-spec =
@@ -104,6 +130,7 @@ rebuild-row-spec =
     step-requires
     add-a
     mul-a
+    read-here-requires
     add-put
     mul-put
     sub-put-2
@@ -113,5 +140,6 @@ rebuild-row-spec =
     add-x
     loop-less
     loop-again
+    keep-reads-requires
     same-length
     returns)

@@ -106,7 +106,7 @@ keep-reads-requires : tie.Need-keep-reads-requires Inv-loop μ-loop
 keep-reads-requires c κs =
     let s = start (c .before) in
     let a = s .args in
-    (omega (arith, long (c .before)), ap (λ (l : List Float). getD l 6 nan) (done (c .before)) ∙ row-begins (a .w) (a .target .now) (a .canvas .now) (a .row .now) (s .pre .0 .places))
+    (omega (arith, long (c .before)), ap (λ (l : List Float). getD l 6 nan) (done (c .before)) ∙ row-begins false (a .w) (a .target .now) (a .canvas .now) (a .row .now) (s .pre .0 .places))
 
 same-length : tie.Need-same-length Inv-loop μ-loop
 same-length c =

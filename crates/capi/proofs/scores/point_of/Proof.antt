@@ -6,7 +6,8 @@ use mir.Syntax.{w32}
 use mir.Val.{SFits}
 use Rattle.cover.specs.declared.Kind.{Kind}
 use Rattle.cover.specs.declared.Kind.the-variants.{Circle, Triangle}
-use Rattle.score.specs.Scoring.{pointRefusal, pointSums, scoreAt}
+use Rattle.gather.specs.Gathered.{pointSums}
+use Rattle.score.specs.Scoring.{pointRefusal, scoreAt}
 use Rattle.capi.specs.Answers.{refusedBy}
 use Rattle.capi.specs.Scores.{byPoints, pointAnswer}
 use Rattle.capi.specs.ScoreLaws.{tells-score}

@@ -2,7 +2,8 @@
 use mathlib.Core.Path.{ap, _∙_}
 use mathlib.Core.Option.{Option}
 use Rattle.cover.specs.declared.Kind.{Kind}
-use Rattle.score.specs.Scoring.{spanRefusal, spanSums, scoreAt}
+use Rattle.gather.specs.Gathered.{spanSums}
+use Rattle.score.specs.Scoring.{spanRefusal, scoreAt}
 use Rattle.capi.specs.Answers.{refusedBy}
 use Rattle.capi.specs.Scores.{spanAnswer}
 use Rattle.capi.specs.ScoreLaws.{tells-score}

@@ -7,7 +7,7 @@ use mir.Facts.{toZ-ofZ}
 use Rattle.cover.specs.declared.Kind.the-variants.{Circle}
 use Rattle.score.specs.CallLaws.{usual-rows, point-nothing, point-told}
 use Rattle.score.specs.AskLaws.{PointsAsked, points-asked}
-use Rattle.score.specs.StampSumLaws.{stamp-is-points}
+use Rattle.gather.specs.StampSumLaws.{stamp-is-points}
 use borrow.Author.Needs.{needs}
 use Rattle.score.proofs.calls.circle_point_score.Statement.{statement}
 use Rattle.score.proofs.calls.circle_point_score.Tie as tie
@@ -55,14 +55,11 @@ sub-if3 c = omega (arith, c .before .if2 .left)
 circle-stamp-requires : tie.Need-circle-stamp-requires
 circle-stamp-requires c κs = asked (c .before .before) .stamp _ (c .if3 .taken)
 
-push-stamp-requires : tie.Need-push-stamp-requires
-push-stamp-requires c κs =
+stamp-sums-requires : tie.Need-stamp-sums-requires
+stamp-sums-requires c κs =
     let s = c .before in
     let u = s .before in
     asked (u .before .before) .added _ _ (u .if3 .taken) (s .circle-stamp .ensures (λ q. omega (arith, c .if4 .taken, q)))
-
-unpaired-requires : tie.Need-unpaired-requires
-unpaired-requires c κs = search needs
 
 finalize-requires : tie.Need-finalize-requires
 finalize-requires c κs = search needs
@@ -74,8 +71,7 @@ returns-2 : tie.Need-returns-2
 returns-2 c =
     let m = c .before in
     let d = m .before in
-    let v = d .before in
-    let p = v .before in
+    let p = d .before in
     let s = p .before in
     let e = s .before .before .before in
     let t = e .before .before in
@@ -84,7 +80,7 @@ returns-2 c =
     let z = t .before .before .before .before .before .before in
     simp (toZ-ofZ, z .fits .cx, z .fits .cy, z .fits .r) at (
     point-told _ (a .request) (n .asked .result) (a .levels .now) (a .w) (a .h) (n .asked .ensures) (a .target .now) (a .canvas .now) (t .before .usual-pictures .ensures (t .if1 .taken))
-    (d .unpaired .result) (m .finalize .result) (c .done .result) (d .unpaired .ensures ∙ v .push-stamp .ensures ∙ stamp-is-points _ _ _ (a .w) (a .h) _ (s .circle-stamp .ensures (λ q. omega (arith, p .if4 .taken, q))) (a .target .now) (a .canvas .now)) (m .finalize .ensures) (c .done .ensures))
+    (d .stamp-sums .result) (m .finalize .result) (c .done .result) (d .stamp-sums .ensures ∙ stamp-is-points _ _ _ (a .w) (a .h) _ (s .circle-stamp .ensures (λ q. omega (arith, p .if4 .taken, q))) (a .target .now) (a .canvas .now)) (m .finalize .ensures) (c .done .ensures))
 
 reached-sums-requires : tie.Need-reached-sums-requires
 reached-sums-requires c κs = asked (c .before .before) .reached
@@ -125,8 +121,7 @@ circle-point-score-spec =
     first-column-requires
     sub-if3
     circle-stamp-requires
-    push-stamp-requires
-    unpaired-requires
+    stamp-sums-requires
     finalize-requires
     done-requires
     returns-2

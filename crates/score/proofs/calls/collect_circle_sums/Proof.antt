@@ -7,7 +7,7 @@ use mir.Facts.{toZ-ofZ}
 use Rattle.cover.specs.declared.Kind.the-variants.{Circle}
 use Rattle.score.specs.CallLaws.{usual-rows, point-sums-nothing, point-sums-told}
 use Rattle.score.specs.AskLaws.{PointsAsked, points-asked}
-use Rattle.score.specs.StampSumLaws.{stamp-is-points}
+use Rattle.gather.specs.StampSumLaws.{stamp-is-points}
 use borrow.Author.Needs.{needs}
 use Rattle.score.proofs.calls.collect_circle_sums.Statement.{statement}
 use Rattle.score.proofs.calls.collect_circle_sums.Tie as tie
@@ -51,19 +51,15 @@ sub-if3 c = omega (arith, c .before .if2 .left)
 circle-stamp-requires : tie.Need-circle-stamp-requires
 circle-stamp-requires c κs = asked (c .before .before) .stamp _ (c .if3 .taken)
 
-push-stamp-requires : tie.Need-push-stamp-requires
-push-stamp-requires c κs =
+stamp-sums-requires : tie.Need-stamp-sums-requires
+stamp-sums-requires c κs =
     let s = c .before in
     let u = s .before in
     asked (u .before .before) .added _ _ (u .if3 .taken) (s .circle-stamp .ensures (λ q. omega (arith, c .if4 .taken, q)))
 
-unpaired-requires : tie.Need-unpaired-requires
-unpaired-requires c κs = search needs
-
 returns-2 : tie.Need-returns-2
 returns-2 d =
-    let v = d .before in
-    let p = v .before in
+    let p = d .before in
     let s = p .before in
     let e = s .before .before .before in
     let t = e .before .before in
@@ -71,7 +67,7 @@ returns-2 d =
     let z = t .before .before .before .before in
     simp (toZ-ofZ, z .fits .cx, z .fits .cy, z .fits .r) at (
     point-sums-told _ (a .w) (a .h) (a .target .now) (a .canvas .now) (t .before .usual-pictures .ensures (t .if1 .taken))
-    (d .unpaired .result) (d .unpaired .ensures ∙ v .push-stamp .ensures ∙ stamp-is-points _ _ _ (a .w) (a .h) _ (s .circle-stamp .ensures (λ q. omega (arith, p .if4 .taken, q))) (a .target .now) (a .canvas .now)))
+    (d .stamp-sums .result) (d .stamp-sums .ensures ∙ stamp-is-points _ _ _ (a .w) (a .h) _ (s .circle-stamp .ensures (λ q. omega (arith, p .if4 .taken, q))) (a .target .now) (a .canvas .now)))
 
 reached-sums-requires : tie.Need-reached-sums-requires
 reached-sums-requires c κs = asked (c .before .before) .reached
@@ -105,8 +101,7 @@ collect-circle-sums-spec =
     first-column-requires
     sub-if3
     circle-stamp-requires
-    push-stamp-requires
-    unpaired-requires
+    stamp-sums-requires
     returns-2
     reached-sums-requires
     returns-3

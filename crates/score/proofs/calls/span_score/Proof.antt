@@ -3,7 +3,7 @@ use mathlib.Core.Path.{_∙_}
 use native.Mathlib.Omega.{arith}
 use Rattle.score.specs.CallLaws.{usual-rows, span-nothing, span-told}
 use Rattle.score.specs.AskLaws.{SpansAsked, spans-asked}
-use Rattle.score.specs.StampSumLaws.{stamp-is-spans}
+use Rattle.gather.specs.StampSumLaws.{stamp-is-spans}
 use borrow.Author.Needs.{needs}
 use Rattle.score.proofs.calls.span_score.Statement.{statement}
 use Rattle.score.proofs.calls.span_score.Tie as tie

@@ -9,7 +9,8 @@ use Rattle.refusal.specs.Lengths.{badPicture}
 use Rattle.cover.specs.Cover.{badPlaces}
 use Rattle.sums.specs.declared.ShapeSums.{ShapeSums}
 use Rattle.grade.specs.AlphaSweep.{badLevels}
-use Rattle.score.specs.Scoring.{badCount, badOpacity, pointRefusal, scoreAt, pointSums}
+use Rattle.gather.specs.Gathered.{pointSums}
+use Rattle.score.specs.Scoring.{badCount, badOpacity, pointRefusal, scoreAt}
 use Rattle.grade.specs.AnsweredLaws.{answered-refused, answered-done}
 use Rattle.grade.specs.AlphaSweepLaws.{levels-length}
 use Rattle.score.specs.CallLaws.{Passed, point-passed, picture-lengths}

@@ -2,7 +2,8 @@
 use mathlib.Core.Path.{sym, _∙_}
 use lib.ListN.{length}
 use Rattle.refusal.specs.RefusalLaws.{sized}
-use Rattle.score.specs.Scoring.{pointSumsRefusal, pointSums}
+use Rattle.gather.specs.Gathered.{pointSums}
+use Rattle.score.specs.Scoring.{pointSumsRefusal}
 use Rattle.score.specs.CallLaws.{point-sums-passed, picture-lengths, collected-refused, collected-done}
 use native.Mathlib.Omega.{arith}
 use borrow.Author.Needs.{needs}

@@ -2,7 +2,8 @@
 use mathlib.Core.Path.{sym, _∙_}
 use lib.ListN.{length}
 use Rattle.refusal.specs.RefusalLaws.{sized}
-use Rattle.score.specs.Scoring.{spanSumsRefusal, spanSums}
+use Rattle.gather.specs.Gathered.{spanSums}
+use Rattle.score.specs.Scoring.{spanSumsRefusal}
 use Rattle.score.specs.CallLaws.{span-sums-passed, table-length, collected-refused, collected-done}
 use native.Mathlib.Omega.{arith}
 use borrow.Author.Needs.{needs}

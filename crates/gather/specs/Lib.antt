@@ -1,0 +1,9 @@
+-- What a reader must believe.
+pub mod Gathered
+-- What the loops and their laws say.
+pub mod RunSums
+pub mod StampSums
+pub mod Paired
+pub mod RunSumLaws
+pub mod StampSumLaws
+pub mod CountLaws
