@@ -4,12 +4,12 @@ use mathlib.Core.Logic.{⊎-elim, _⊎_, inl, inr}
 use mathlib.Core.Bool.{Bool, true, false, not, _&&_, _||_, cond, true≢false}
 use mathlib.Core.List.{List, [], _∷_}
 use Prim.Native.Nat.{ℕ, zero, suc, _+_, _-_, _*_, _/_, _%_, _≤_, _<_, min}
-use native.Mathlib.Nat.{mul-le-mul, lt-of-lt-of-le, le-of-eq}
+use native.Mathlib.Nat.{mul-le-mul, lt-of-lt-of-le, le-of-eq, div-add-mod', mod-lt}
 use native.Mathlib.Omega.{arith}
 use lib.Dec.{T, eqb}
 use lib.ListN.{length, getD, take, set, length-set}
 use lib.IntN.{pos}
-use lib.Seq.{take-all, take-take, getD-take, length-take-le}
+use lib.Seq.{take-all, take-take, getD-take, length-take-le, getD-set-same, getD-set-other}
 use lib.Ieee.{Float, nan, inf, fin, Format, binary64, add, sub, neg, ofInt}
 use lib.Ieee.Fits.{and-l, and-r}
 use Rattle.laws.specs.Answer.{Answer}
@@ -19,10 +19,8 @@ use Rattle.laws.specs.BeforeLaws.{before-none, before-more}
 use Rattle.laws.specs.EveryLaws.{every-each, every-take}
 use Rattle.laws.specs.F64.{_⊕_, _⊘_}
 use Rattle.laws.specs.Fit.{no-both}
-use Rattle.laws.specs.Fill.{agree-more, agree-all}
-use Rattle.laws.specs.Index.{index-mod}
 use Rattle.laws.specs.Pictures.{plain, channelOf}
-use Rattle.laws.specs.PictureLaws.{length-list, list-number, list-every}
+use Rattle.laws.specs.PictureLaws.{length-list, numbers-list, list-every}
 use Rattle.laws.specs.StrokeLaws.{le-or-lt}
 use Rattle.float.specs.Within.{nought, number, within, allWithin}
 use Rattle.float.specs.Narrowed.{narrowed}
@@ -39,7 +37,7 @@ use Rattle.picture.specs.declared.Mean.{Mean}
 use Rattle.picture.specs.declared.Mean.the-variants as mean
 use Rattle.picture.specs.declared.Total.{Total}
 use Rattle.picture.specs.declared.Total.the-variants as total
-use Rattle.picture.specs.Strokes.{pixelPut}
+use Rattle.picture.specs.Strokes.{pixelPut, pairPut, pixelColour, Coloured}
 use Rattle.picture.specs.Pixels.{badColour, BadColourSays, filled, fillRefusal, FillSays, FilledCanvasSays, channelSum, sumsTo, channelMean, meanOf, meanRefusal, meanAnswer, MeanRgbSays, squaredDifference, totalOf, totalTo, totalRefusal, totalAnswer, SseTotalSays, TotalAnySays}
 
 -- ---- each promise has one answer
@@ -99,74 +97,70 @@ colour-within red green blue e = by
     by (suc (suc ch)) = and-r (within red && within green) (within blue) three
 
 -- ---- fill: pixel i is written
+colour-same : (r g b x y z : Float) → r ≡ x → g ≡ y → b ≡ z → _≡_ {A = Colour} (record { red = r; green = g; blue = b }) (record { red = x; green = y; blue = z })
+colour-same r g b x y z p q u = rw (p, q, u) refl
 
--- a colour under other names
-abbrev pub Like : Float → Float → Float → Float → Float → Float → Type 0
-Like red green blue r g b = (r ≡ red) × (g ≡ green) × (b ≡ blue)
+module _ (l : List Float) (i : ℕ) (c : Colour) where
+  -- the numbers of a pixel that was put, and those of the others
+  put-here : i * 3 + 3 ≤ length l → pixelColour i (pixelPut i c l) ≡ c
+  put-here h =
+      let l1 = set l (i * 3) (c .red) in
+      let l2 = set l1 (i * 3 + 1) (c .green) in
+      let e1 = length-set l (i * 3) (c .red) in
+      let e2 = length-set l1 (i * 3 + 1) (c .green) in
+      colour-same _ _ _ _ _ _
+      (getD-set-other l2 (i * 3 + 2) (i * 3) (c .blue) nan (λ e. absurd (omega (arith, e)))
+      ∙ getD-set-other l1 (i * 3 + 1) (i * 3) (c .green) nan (λ e. absurd (omega (arith, e)))
+      ∙ getD-set-same l (i * 3) (c .red) nan (omega arith))
+      (getD-set-other l2 (i * 3 + 2) (i * 3 + 1) (c .blue) nan (λ e. absurd (omega (arith, e))) ∙ getD-set-same l1 (i * 3 + 1) (c .green) nan (omega (arith, e1)))
+      (getD-set-same l2 (i * 3 + 2) (c .blue) nan (omega (arith, e1, e2)))
+
+  put-apart : (j : ℕ) → j < i * 3 → getD (pixelPut i c l) j nan ≡ getD l j nan
+  put-apart j k =
+      getD-set-other (set (set l (i * 3) (c .red)) (i * 3 + 1) (c .green)) (i * 3 + 2) j (c .blue) nan (λ e. absurd (omega (arith, e)))
+      ∙ getD-set-other (set l (i * 3) (c .red)) (i * 3 + 1) j (c .green) nan (λ e. absurd (omega (arith, e)))
+      ∙ getD-set-other l (i * 3) j (c .red) nan (λ e. absurd (omega (arith, e)))
+
+module _ (c : Colour) where
+  pub coloured-none : (l : List Float) → Coloured c 0 l
+  coloured-none l = record { each = λ i k. absurd (omega (arith, k)) }
+
+  pub coloured-first : (m n : ℕ) (l : List Float) → m ≤ n → Coloured c n l → Coloured c m l
+  coloured-first m n l h f = record { each = λ i k. f .each i (omega arith) }
+
+  -- one more
+  pub coloured-put : (i j : ℕ) (p : Colour) (l m : List Float) → m ≡ pixelPut i p l → j ≡ i + 1 → i * 3 + 3 ≤ length l → p ≡ c → Coloured c i l → Coloured c j m
+  coloured-put i j p l m e n h q f = rw (e, n, q) (record { each = by })
+    where
+      by : (k : ℕ) → k < i + 1 → pixelColour k (pixelPut i c l) ≡ c
+      by k a =
+          ⊎-elim
+          (λ (b : i ≤ k). let z : k ≡ i = omega arith in ap (λ (t : ℕ). pixelColour t (pixelPut i c l)) z ∙ put-here l i c h)
+          (λ (b : k < i).
+          colour-same _ _ _ _ _ _ (put-apart l i c (k * 3) (omega arith)) (put-apart l i c (k * 3 + 1) (omega arith)) (put-apart l i c (k * 3 + 2) (omega arith))
+          ∙ f .each k b)
+          (le-or-lt i k)
+
+  -- and two
+  pub coloured-pair : (i j k : ℕ) (p q : Colour) (l m : List Float) → m ≡ pairPut i p q l → j ≡ i * 2 → k ≡ i * 2 + 2 → i * 6 + 6 ≤ length l → p ≡ c → q ≡ c → Coloured c j l → Coloured c k m
+  coloured-pair i j k p q l m e n o h a b f =
+      let l1 = pixelPut (i * 2) p l in
+      let n1 : length l1 ≡ length l = simp length-set refl in
+      coloured-put (i * 2 + 1) k q l1 m e (omega arith) (omega (arith, n1)) b (coloured-put (i * 2) (i * 2 + 1) p l l1 refl refl (omega arith) a (rw n at f))
 
 module _ (w h : ℕ) (red green blue : Float) where
   pub length-filled : length (filled w h red green blue) ≡ h * w * 3
   length-filled = length-list w h (plain red green blue)
 
-  filled-at : (i ch : ℕ) → i < h * w → ch < 3 → getD (filled w h red green blue) (i * 3 + ch) nan ≡ channelOf red green blue ch
-  filled-at i ch l c =
-      list-number w h (plain red green blue) (i * 3 + ch) nan (omega arith)
-      ∙ ap (channelOf red green blue) (index-mod 3 i ch c)
-
-  fill-more : (l : List Float) (i : ℕ) → length l ≡ h * w * 3 → i < h * w → take (i * 3) l ≡ take (i * 3) (filled w h red green blue)
-      → take ((i + 1) * 3) (set (set (set l (i * 3) red) (i * 3 + 1) green) (i * 3 + 2) blue) ≡ take ((i + 1) * 3) (filled w h red green blue)
-  fill-more l i e k p =
-      let s = filled w h red green blue in
-      let z : i * 3 ≡ i * 3 + 0 = omega arith in
-      let t : (i + 1) * 3 ≡ i * 3 + 2 + 1 = omega arith in
-      let o : i * 3 + 2 ≡ i * 3 + 1 + 1 = omega arith in
-      let l1 = set l (i * 3) red in
-      let l2 = set l1 (i * 3 + 1) green in
-      let e1 : length l1 ≡ length s = length-set l (i * 3) red ∙ e ∙ sym length-filled in
-      let e2 : length l2 ≡ length s = length-set l1 (i * 3 + 1) green ∙ e1 in
-      let a = agree-more l s (i * 3) nan red (e ∙ sym length-filled) (omega arith) p (sym (ap (λ (j : ℕ). getD s j nan) z ∙ filled-at i 0 k (omega arith))) in
-      let b = agree-more l1 s (i * 3 + 1) nan green e1 (omega (arith, length-set l (i * 3) red)) a (sym (filled-at i 1 k (omega arith))) in
-      let b' : take (i * 3 + 2) l2 ≡ take (i * 3 + 2) s = rw o b in
-      rw t (agree-more l2 s (i * 3 + 2) nan blue e2 (omega (arith, length-set l1 (i * 3 + 1) green, length-set l (i * 3) red)) b' (sym (filled-at i 2 k (omega arith))))
-
-  -- the first i pixels of l are written
-  pub record FilledTo (i : ℕ) (l : List Float) : Type 0 where
-    pub size : length l ≡ h * w * 3
-    pub first : take (i * 3) l ≡ take (i * 3) (filled w h red green blue)
-
-  pub fill-none : (l : List Float) → length l ≡ h * w * 3 → FilledTo 0 l
-  fill-none l e = record { size = e; first = refl }
-
-  -- one more
-  pub fill-put : (l m : List Float) (i j : ℕ) (r g b : Float) → m ≡ pixelPut i r g b l → j ≡ i + 1 → i < h * w
-      → Like red green blue r g b → FilledTo i l → FilledTo j m
-  fill-put l m i j r g b e n k (p, q, s) f = rw (e, n, p, q, s) (record {
-    size = simp length-set (f .size);
-    first = fill-more l i (f .size) k (f .first);
-  })
-
   -- all are written
-  pub fill-done : (l : List Float) (i : ℕ) → h * w ≤ i → FilledTo i l → l ≡ filled w h red green blue
-  fill-done l i n f = agree-all l (filled w h red green blue) (i * 3) (f .size ∙ sym length-filled) (omega (arith, length-filled)) (f .first)
-
-  -- a pixel that is written has the colour
-  written : (l : List Float) (i j ch : ℕ) → j < i → i ≤ h * w → ch < 3 → FilledTo i l → getD l (j * 3 + ch) nan ≡ channelOf red green blue ch
-  written l i j ch a b c f =
-      let k = j * 3 + ch in
-      let m : k < i * 3 = omega arith in
-      sym (getD-take (i * 3) l k nan m)
-      ∙ ap (λ (t : List Float). getD t k nan) (f .first)
-      ∙ getD-take (i * 3) (filled w h red green blue) k nan m
-      ∙ filled-at j ch (omega arith) c
-
-  pub written-pixel : (l : List Float) (i j : ℕ) → j < i → i ≤ h * w → FilledTo i l
-      → Like red green blue (getD l (j * 3) nan) (getD l (j * 3 + 1) nan) (getD l (j * 3 + 2) nan)
-  written-pixel l i j a b f =
-      let z : j * 3 ≡ j * 3 + 0 = omega arith in (
-        ap (λ (k : ℕ). getD l k nan) z ∙ written l i j 0 a b (omega arith) f,
-        written l i j 1 a b (omega arith) f,
-        written l i j 2 a b (omega arith) f,
-      )
+  pub coloured-all : (n : ℕ) (l : List Float) → length l ≡ h * w * 3 → h * w ≤ n → Coloured (record { red = red; green = green; blue = blue }) n l → l ≡ filled w h red green blue
+  coloured-all n l e k f = numbers-list w h (plain red green blue) nan l e (λ i m. ap (λ (j : ℕ). getD l j nan) (sym (div-add-mod' i 3)) ∙ by (i / 3) (i % 3) (omega arith) (mod-lt i (omega arith)))
+    where
+      by : (j ch : ℕ) → j < n → ch < 3 → getD l (j * 3 + ch) nan ≡ channelOf red green blue ch
+      by j zero a b = let z : j * 3 + 0 ≡ j * 3 = omega arith in ap (λ (k : ℕ). getD l k nan) z ∙ ap (λ (t : Colour). t .red) (f .each j a)
+      by j (suc zero) a b = ap (λ (t : Colour). t .green) (f .each j a)
+      by j (suc (suc zero)) a b = ap (λ (t : Colour). t .blue) (f .each j a)
+      by j (suc (suc (suc ch))) a b = absurd (omega (arith, b))
 
   -- a colour within 0..1 fills a picture within 0..1
   pub filled-within : badColour red green blue ≡ false → T (allWithin (filled w h red green blue))

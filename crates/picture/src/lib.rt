@@ -8,8 +8,9 @@ ghost use Rattle.laws.specs.Strokes.{RunsWithin};
 ghost use Rattle.refusal.specs.Refusals.{Sized, lowest, sizeIf, lengthIf, badSize};
 ghost use Rattle.refusal.specs.Lengths.{badPicture};
 ghost use Rattle.cover.specs.Cover.{badPlaces};
+ghost use Rattle.picture.specs.declared.Colour.{Colour};
 ghost use Rattle.picture.specs.Painting.{BlendSays};
-ghost use Rattle.picture.specs.Strokes.{brushedPart, brushedRows, pixelPut, RowsWithin};
+ghost use Rattle.picture.specs.Strokes.{brushedPart, brushedRows, pixelColour, Coloured, pairPut, pixelPut, RowsWithin};
 ghost use Rattle.picture.specs.Pixels.{BadColourSays, FillSays, FilledCanvasSays, fillRefusal, MeanRgbSays, SseTotalSays, TotalAnySays};
 use brush::Brush;
 use cover::Kind;
@@ -82,54 +83,81 @@ fn fill_refusal(w: usize, h: usize, red: f32, green: f32, blue: f32, n: usize) -
     0
 }
 
-// The same without the tests, for any colour bits. After the first 16 pixels, four at a time: their twelve numbers are read back
-// from the first four, one after another as they stand, so that the compiler holds and stores them as vectors. Of `red`, `green`
-// and `blue` themselves it makes a store for each number on x86-64.
+// The same without the tests, for any colour bits: the first 16 pixels, then four at a time, then those that are left.
 pub fn fill(w: usize, h: usize, red: f32, green: f32, blue: f32, canvas: &mut [f32])
     requires { ⌜ length (now canvas) ≡ h * w * 3 ⌝ }
     ensures { λ _. ⌜ FillSays w h red green blue (now (canvas .exit)) ⌝ }
 {
     let n = h * w;
+    let colour = Colour { red, green, blue };
     let begun = whole::min_usize(n, 16);
-    for i in 0..begun {
-        put(i, red, green, blue, canvas);
-    }
+    put_each(0, begun, colour, canvas);
     if n <= 16 {
         return;
     }
-    let r0 = canvas[0];
-    let g0 = canvas[1];
-    let b0 = canvas[2];
-    let r1 = canvas[3];
-    let g1 = canvas[4];
-    let b1 = canvas[5];
-    let r2 = canvas[6];
-    let g2 = canvas[7];
-    let b2 = canvas[8];
-    let r3 = canvas[9];
-    let g3 = canvas[10];
-    let b3 = canvas[11];
     let fours = n / 4;
-    for i in 4..fours {
-        put(i * 4, r0, g0, b0, canvas);
-        put(i * 4 + 1, r1, g1, b1, canvas);
-        put(i * 4 + 2, r2, g2, b2, canvas);
-        put(i * 4 + 3, r3, g3, b3, canvas);
-    }
-    for i in fours * 4..n {
-        put(i, red, green, blue, canvas);
+    put_fours(fours, canvas);
+    put_each(fours * 4, n, colour, canvas);
+}
+
+// Pixels `from` up to `to`, one by one.
+fn put_each(from: usize, to: usize, colour: Colour, canvas: &mut [f32])
+    requires { ⌜ to * 3 ≤ length (now canvas) ⌝ }
+    ensures { λ _. ⌜ (Coloured colour from (now (canvas .entry)) → Coloured colour to (now (canvas .exit))) ⌝ }
+{
+    for i in from..to {
+        put(i, colour, canvas);
     }
 }
 
-// Pixel i gets the colour.
-fn put(i: usize, red: f32, green: f32, blue: f32, canvas: &mut [f32])
+// Pixels 16 up to `fours` * 4, after 16 of one colour. Their twelve numbers are read back from the first four, one after another as they
+// stand, so that the compiler holds and stores them as vectors. Of `red`, `green` and `blue` themselves it makes a store for each
+// number on x86-64.
+fn put_fours(fours: usize, canvas: &mut [f32])
+    requires { ⌜ (4 ≤ fours) × (fours * 12 ≤ length (now canvas)) ⌝ }
+    ensures { λ _. ⌜ ((c : Colour) → Coloured c 16 (now (canvas .entry)) → Coloured c (fours * 4) (now (canvas .exit))) ⌝ }
+{
+    let a = colour_at(0, canvas);
+    let b = colour_at(1, canvas);
+    let c = colour_at(2, canvas);
+    let d = colour_at(3, canvas);
+    for i in 4..fours {
+        put_pair(i * 2, a, b, canvas);
+        put_pair(i * 2 + 1, c, d, canvas);
+    }
+}
+
+// The colour of pixel i.
+fn colour_at(i: usize, canvas: &[f32]) -> Colour
     requires { ⌜ i * 3 + 3 ≤ length (now canvas) ⌝ }
-    ensures { λ _. ⌜ now (canvas .exit) ≡ pixelPut i red green blue (now (canvas .entry)) ⌝ }
+    ensures { λ r. ⌜ r ≡ pixelColour i (now (canvas .entry)) ⌝ }
 {
     let k = i * 3;
-    canvas[k] = red;
-    canvas[k + 1] = green;
-    canvas[k + 2] = blue;
+    Colour {
+        red: canvas[k],
+        green: canvas[k + 1],
+        blue: canvas[k + 2],
+    }
+}
+
+// Pixels 2 i and 2 i + 1.
+fn put_pair(i: usize, a: Colour, b: Colour, canvas: &mut [f32])
+    requires { ⌜ i * 6 + 6 ≤ length (now canvas) ⌝ }
+    ensures { λ _. ⌜ now (canvas .exit) ≡ pairPut i a b (now (canvas .entry)) ⌝ }
+{
+    put(i * 2, a, canvas);
+    put(i * 2 + 1, b, canvas);
+}
+
+// Pixel i gets the colour.
+fn put(i: usize, colour: Colour, canvas: &mut [f32])
+    requires { ⌜ i * 3 + 3 ≤ length (now canvas) ⌝ }
+    ensures { λ _. ⌜ now (canvas .exit) ≡ pixelPut i colour (now (canvas .entry)) ⌝ }
+{
+    let k = i * 3;
+    canvas[k] = colour.red;
+    canvas[k + 1] = colour.green;
+    canvas[k + 2] = colour.blue;
 }
 
 // ---- mean
