@@ -1,44 +1,44 @@
--- Laws: the steps of fill, mean and total; the difference of two values within 0..1 is a number; a filled picture, a mean; each promise has one answer.
-use mathlib.Core.Path.{_≡_, refl, sym, ap, _∙_, subst}
-use mathlib.Core.Logic.{⊎-elim, _⊎_, inl, inr}
+-- Laws: the steps of fill; a filled picture; what the sums of a mean and a total answer; each promise has one answer.
+use mathlib.Core.Path.{_≡_, refl, sym, ap, _∙_}
+use mathlib.Core.Logic.{⊎-elim}
 use mathlib.Core.Bool.{Bool, true, false, not, _&&_, _||_, cond, true≢false}
 use mathlib.Core.List.{List, [], _∷_}
-use Prim.Native.Nat.{ℕ, zero, suc, _+_, _-_, _*_, _/_, _%_, _≤_, _<_, min}
-use native.Mathlib.Nat.{mul-le-mul, lt-of-lt-of-le, le-of-eq, div-add-mod', mod-lt}
+use Prim.Native.Nat.{ℕ, zero, suc, _+_, _*_, _/_, _%_, _≤_, _<_}
+use native.Mathlib.Nat.{mul-le-mul, div-add-mod', mod-lt}
 use native.Mathlib.Omega.{arith}
 use lib.Dec.{T, eqb}
-use lib.ListN.{length, getD, take, set, length-set}
+use lib.ListN.{length, getD, set, length-set}
 use lib.IntN.{pos}
-use lib.Seq.{take-all, take-take, getD-take, length-take-le, getD-set-same, getD-set-other}
-use lib.Ieee.{Float, nan, inf, fin, Format, binary64, add, sub, neg, ofInt}
+use lib.Seq.{getD-set-same, getD-set-other}
+use lib.Ieee.{Float, nan, binary64, ofInt}
 use lib.Ieee.Fits.{and-l, and-r}
-use Rattle.laws.specs.Answer.{Answer}
-use Rattle.laws.specs.Bools.{is-true, true-is, true-or-false, and-left, and-right, and-both, or-left, or-right}
-use Rattle.laws.specs.Before.{before}
-use Rattle.laws.specs.BeforeLaws.{before-none, before-more}
-use Rattle.laws.specs.EveryLaws.{every-each, every-take}
-use Rattle.laws.specs.F64.{_⊕_, _⊘_}
-use Rattle.laws.specs.Fit.{no-both}
+use Rattle.laws.specs.Answer.{Answer, answer}
+use Rattle.laws.specs.Bools.{or-left, or-right}
+use Rattle.laws.specs.F64.{_⊘_}
 use Rattle.laws.specs.Pictures.{plain, channelOf}
 use Rattle.laws.specs.PictureLaws.{length-list, numbers-list, list-every}
 use Rattle.laws.specs.StrokeLaws.{le-or-lt}
-use Rattle.float.specs.Within.{nought, number, within, allWithin}
+use Rattle.float.specs.Within.{nought, within, allWithin}
 use Rattle.float.specs.Narrowed.{narrowed}
-use Rattle.float.specs.WithinLaws.{Says, says, within-number}
-use Rattle.float.specs.MarksLaws.{sum-number}
 use Rattle.refusal.specs.Refusals.{Sized, badSize, lowest, sizeIf, lengthIf, pixelIf}
 use Rattle.refusal.specs.Lengths.{badPicture}
 use Rattle.refusal.specs.LengthLaws.{picture-length}
 use Rattle.refusal.specs.RefusalLaws.{sized}
 use Rattle.refusal.specs.ThreeTests.{passed, two-passed, at-third, at-none}
+use Rattle.tally.specs.declared.means.Sums.{Sums}
+use Rattle.tally.specs.declared.means.Summed.{Summed}
+use Rattle.tally.specs.declared.means.Summed.the-variants as summed
+use Rattle.tally.specs.declared.totals.Totalled.{Totalled}
+use Rattle.tally.specs.declared.totals.Totalled.the-variants as totalled
+use Rattle.tally.specs.Tally.{sumsTo, SumsWithinSays, ShareSays, totalOf, TotalWithinSays}
+use Rattle.tally.specs.TallyLaws.{sums-are}
 use Rattle.picture.specs.declared.Colour.{Colour}
-use Rattle.picture.specs.declared.means.Sums.{Sums}
 use Rattle.picture.specs.declared.Mean.{Mean}
 use Rattle.picture.specs.declared.Mean.the-variants as mean
 use Rattle.picture.specs.declared.Total.{Total}
 use Rattle.picture.specs.declared.Total.the-variants as total
 use Rattle.picture.specs.Strokes.{pixelPut, pairPut, pixelColour, Coloured}
-use Rattle.picture.specs.Pixels.{badColour, BadColourSays, filled, fillRefusal, FillSays, FilledCanvasSays, channelSum, sumsTo, channelMean, meanOf, meanRefusal, meanAnswer, MeanRgbSays, squaredDifference, totalOf, totalTo, totalRefusal, totalAnswer, SseTotalSays, TotalAnySays}
+use Rattle.picture.specs.Pixels.{badColour, BadColourSays, filled, fillRefusal, FillSays, FilledCanvasSays, channelMean, noColour, meanOf, meanRefusal, meanAnswer, MeanRgbSays, totalRefusal, totalAnswer, SseTotalSays, TotalAnySays}
 
 -- ---- each promise has one answer
 pub BadColourSays-unique : (red green blue : Float) (r s : Bool) → BadColourSays red green blue r → BadColourSays red green blue s → r ≡ s
@@ -166,79 +166,42 @@ module _ (w h : ℕ) (red green blue : Float) where
   pub filled-within : badColour red green blue ≡ false → T (allWithin (filled w h red green blue))
   filled-within e = list-every w h within (plain red green blue) nan (λ ch y x c l m. colour-within red green blue e ch)
 
--- ---- mean: pixel i is added
-pub sum-none : (target : List Float) (ch : ℕ) → nought ≡ channelSum target ch 0
-unfolding channelSum
-sum-none target ch = sym (before-none nought _⊕_ (λ i. getD target (i * 3 + ch) nan))
+-- ---- mean, of what the sums say
+abbrev colour-shared : ℕ → Sums → Colour
+colour-shared n s = record {
+  red = narrowed (s .red ⊘ ofInt binary64 (pos n));
+  green = narrowed (s .green ⊘ ofInt binary64 (pos n));
+  blue = narrowed (s .blue ⊘ ofInt binary64 (pos n));
+}
 
-pub sum-more : (target : List Float) (ch i j : ℕ) (s v : Float) → j ≡ i * 3 + ch → s ≡ channelSum target ch i → v ≡ getD target j nan → s ⊕ v ≡ channelSum target ch (i + 1)
-unfolding channelSum
-sum-more target ch i j s v e p q =
-    ap (λ (t : Float). t ⊕ v) p
-    ∙ ap (λ (t : Float). before nought _⊕_ (λ k. getD target (k * 3 + ch) nan) i ⊕ t) (q ∙ ap (λ (k : ℕ). getD target k nan) e)
-    ∙ before-more nought _⊕_ (λ k. getD target (k * 3 + ch) nan) i
+abbrev mean-of : ℕ → Summed → Mean
+mean-of n (summed.Of s) = mean.Done (colour-shared n s)
+mean-of n summed.Beyond = mean.Refused 7
 
-abbrev sums-of : Float → Float → Float → Sums
-sums-of r g b = record { red = r; green = g; blue = b }
+mean-right : (w h : ℕ) (target : List Float) → colour-shared (h * w) (sumsTo target (h * w)) ≡ meanOf w h target
+unfolding meanOf channelMean
+mean-right w h target = ap (colour-shared (h * w)) (sums-are target (h * w))
 
-sums-same : (r g b x y z : Float) → r ≡ x → g ≡ y → b ≡ z → sums-of r g b ≡ sums-of x y z
-sums-same r g b x y z p q u = ap (λ (k : Float). sums-of k g b) p ∙ ap (λ (k : Float). sums-of x k b) q ∙ ap (λ (k : Float). sums-of x y k) u
+module _ (w h : ℕ) (target : List Float) (r : Summed) (says : SumsWithinSays target (h * w) r) where
+  answered : meanAnswer (mean-of (h * w) r) ≡ answer (cond (allWithin target) 0 7) (meanOf w h target) noColour
+  answered = ap (λ (t : Summed). meanAnswer (mean-of (h * w) t)) says ∙ by (allWithin target) ∙ ap (λ (c : Colour). answer (cond (allWithin target) 0 7) c noColour) (mean-right w h target)
+    where
+      by : (b : Bool) → meanAnswer (mean-of (h * w) (cond b (summed.Of (sumsTo target (h * w))) summed.Beyond)) ≡ answer (cond b 0 7) (colour-shared (h * w) (sumsTo target (h * w))) noColour
+      by true = refl
+      by false = refl
 
-pub sums-none : (target : List Float) → sums-of nought nought nought ≡ sumsTo target 0
-unfolding sumsTo
-sums-none target = sums-same nought nought nought _ _ _ (sum-none target 0) (sum-none target 1) (sum-none target 2)
+  pub mean-done : (s : Sums) (red green blue : Float) → r ≡ summed.Of s → ShareSays (s .red) (h * w) red → ShareSays (s .green) (h * w) green → ShareSays (s .blue) (h * w) blue
+      → meanAnswer (mean.Done (record { red = red; green = green; blue = blue })) ≡ answer (cond (allWithin target) 0 7) (meanOf w h target) noColour
+  mean-done s red green blue e p q u =
+      ap (λ (c : Colour). meanAnswer (mean.Done c)) (colour-same red green blue _ _ _ p q u)
+      ∙ ap (λ (t : Summed). meanAnswer (mean-of (h * w) t)) (sym e)
+      ∙ answered
 
--- pixel i, whose three numbers were added
-pub sums-more : (target : List Float) (i : ℕ) (s : Sums) (r g b : Float) → s ≡ sumsTo target i
-    → r ≡ getD target (i * 3) nan → g ≡ getD target (i * 3 + 1) nan → b ≡ getD target (i * 3 + 2) nan
-    → sums-of (s .red ⊕ r) (s .green ⊕ g) (s .blue ⊕ b) ≡ sumsTo target (i + 1)
-unfolding sumsTo
-sums-more target i s r g b p q u v =
-    sums-same (s .red ⊕ r) (s .green ⊕ g) (s .blue ⊕ b) _ _ _
-    (sum-more target 0 i (i * 3) (s .red) r (omega arith) (ap (λ (z : Sums). z .red) p) q)
-    (sum-more target 1 i (i * 3 + 1) (s .green) g refl (ap (λ (z : Sums). z .green) p) u)
-    (sum-more target 2 i (i * 3 + 2) (s .blue) b refl (ap (λ (z : Sums). z .blue) p) v)
-
-pub mean-all : (w h : ℕ) (target : List Float) (n : ℕ) (s : Sums) (r g b : Float) → n ≡ h * w → s ≡ sumsTo target n
-    → r ≡ narrowed (s .red ⊘ ofInt binary64 (pos n)) → g ≡ narrowed (s .green ⊘ ofInt binary64 (pos n)) → b ≡ narrowed (s .blue ⊘ ofInt binary64 (pos n))
-    → _≡_ {A = Colour} (record { red = r; green = g; blue = b }) (meanOf w h target)
-unfolding meanOf channelMean sumsTo
-mean-all w h target n s r g b e p u v z = simp (u, v, z, p, e)
+  pub mean-beyond : r ≡ summed.Beyond → meanAnswer (mean.Refused 7) ≡ answer (cond (allWithin target) 0 7) (meanOf w h target) noColour
+  mean-beyond e = ap (λ (t : Summed). meanAnswer (mean-of (h * w) t)) (sym e) ∙ answered
 
 pub few-pixels : (w h : ℕ) → Sized w h → h * w ≤ 65536
 few-pixels w h s = mul-le-mul (s .h-high) (s .w-high)
-
--- ---- total: number i is added
-pub total-none : (target canvas : List Float) → nought ≡ totalTo target canvas 0
-unfolding totalTo
-total-none target canvas = sym (before-none nought _⊕_ (λ i. squaredDifference (getD target i nan) (getD canvas i nan)))
-
-pub total-more : (target canvas : List Float) (i : ℕ) (s v : Float) → s ≡ totalTo target canvas i → v ≡ squaredDifference (getD target i nan) (getD canvas i nan) → s ⊕ v ≡ totalTo target canvas (i + 1)
-unfolding totalTo
-total-more target canvas i s v p q =
-    ap (λ (t : Float). t ⊕ v) p
-    ∙ ap (λ (t : Float). totalTo target canvas i ⊕ t) q
-    ∙ before-more nought _⊕_ (λ k. squaredDifference (getD target k nan) (getD canvas k nan)) i
-
-pub total-all : (target canvas : List Float) (n : ℕ) (s : Float) → n ≡ length target → s ≡ totalTo target canvas n → s ≡ totalOf target canvas
-unfolding totalTo totalOf
-total-all target canvas n s e p = p ∙ ap (totalTo target canvas) e
-
--- ---- the difference of two values within 0..1 is a number
-pub difference-number : (f : Format) (x y : Float) → T (within x) → T (within y) → T (number (sub f x y))
-unfolding sub add neg
-difference-number f x y h k = go x y (says x h) (says y k)
-  where
-    go : (x y : Float) → Says x → Says y → T (number (sub f x y))
-    go nan y p q = absurd p
-    go (inf s) y p q = absurd p
-    go (fin s m e) nan p q = absurd q
-    go (fin s m e) (inf t) p q = absurd q
-    go (fin s m e) (fin t n d) p q = sum-number f s _ (not t) _ _
-
--- an element of a picture within 0..1
-pub within-at : (xs : List Float) (k : ℕ) → T (allWithin xs) → k < length xs → T (within (getD xs k nan))
-within-at xs k h l = every-each within xs k nan h l
 
 -- ---- what 0 gives: every test was passed
 pub fill-passed : (w h : ℕ) (red green blue : Float) (n : ℕ) → fillRefusal w h red green blue n ≡ 0 → Sized w h × (n ≡ h * w * 3) × (badColour red green blue ≡ false)
@@ -286,39 +249,15 @@ pixels-last w h target canvas e =
     either true b = refl
     either false b = refl
 
--- the first numbers are not within 0..1, or all are
-pub first-bad : (t : List Float) (k : ℕ) → allWithin (take k t) ≡ false → allWithin t ≡ false
-first-bad t k h =
-    ⊎-elim (λ (y : allWithin t ≡ true). no-both (is-true (allWithin (take k t)) (every-take within k t (true-is (allWithin t) y))) h) (λ (n : allWithin t ≡ false). n)
-    (true-or-false (allWithin t))
+-- ---- total, of what the sum says
+abbrev total-of : Totalled → Total
+total-of (totalled.Of s) = total.Done s
+total-of totalled.Beyond = total.Refused 7
 
-pub first-all : (t : List Float) (k : ℕ) → length t ≤ k → T (allWithin (take k t)) → allWithin t ≡ true
-first-all t k h p = ap allWithin (sym (take-all k t h)) ∙ is-true (allWithin (take k t)) p
-
--- of two pictures
-pub part-bad : (t c : List Float) (k : ℕ) → allWithin (take k t) && allWithin (take k c) ≡ false → allWithin t && allWithin c ≡ false
-part-bad t c k h =
-    ⊎-elim
-    (λ (y : allWithin t && allWithin c ≡ true).
-    no-both
-    (and-both (allWithin (take k t)) (allWithin (take k c))
-    (is-true (allWithin (take k t)) (every-take within k t (true-is (allWithin t) (and-left (allWithin t) (allWithin c) y))))
-    (is-true (allWithin (take k c)) (every-take within k c (true-is (allWithin c) (and-right (allWithin t) (allWithin c) y)))))
-    h)
-    (λ (n : allWithin t && allWithin c ≡ false). n)
-    (true-or-false (allWithin t && allWithin c))
-
-pub part-all : (t c : List Float) (k : ℕ) → length t ≤ k → length c ≤ k → T (allWithin (take k t)) → T (allWithin (take k c)) → allWithin t && allWithin c ≡ true
-part-all t c k h l p q = and-both (allWithin t) (allWithin c) (first-all t k h p) (first-all c k l q)
-
--- an element of the first numbers
-pub within-before : (xs : List Float) (n k : ℕ) → T (allWithin (take n xs)) → k < n → n ≤ length xs → T (within (getD xs k nan))
-within-before xs n k h l m =
-    subst (λ (x : Float). T (within x)) (getD-take n xs k nan l) (within-at (take n xs) k h (lt-of-lt-of-le l (le-of-eq (sym (length-take-le n xs m)))))
-
-pub number-before : (xs : List Float) (n k : ℕ) → T (allWithin (take n xs)) → k < n → n ≤ length xs → T (number (getD xs k nan))
-number-before xs n k h l m = within-number (getD xs k nan) (within-before xs n k h l m)
-
--- the first i of numbers that are within 0..1 are
-pub within-first : (xs : List Float) (i n : ℕ) → i ≤ n → T (allWithin (take n xs)) → T (allWithin (take i xs))
-within-first xs i n h p = subst (λ (l : List Float). T (allWithin l)) (take-take i n xs h) (every-take within i (take n xs) p)
+pub total-told : (target canvas : List Float) (r t : Totalled) → TotalWithinSays target canvas r → r ≡ t
+    → totalAnswer (total-of t) ≡ answer (cond (allWithin target && allWithin canvas) 0 7) (totalOf target canvas) nought
+total-told target canvas r t says e = ap (λ (u : Totalled). totalAnswer (total-of u)) (sym e ∙ says) ∙ by (allWithin target && allWithin canvas)
+  where
+    by : (b : Bool) → totalAnswer (total-of (cond b (totalled.Of (totalOf target canvas)) totalled.Beyond)) ≡ answer (cond b 0 7) (totalOf target canvas) nought
+    by true = refl
+    by false = refl

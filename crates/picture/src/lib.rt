@@ -1,25 +1,25 @@
 // Pictures: fill, mean, total, and shapes blended into them.
 ghost use mathlib.Core.Path.{_≡_};
-ghost use mathlib.Core.Bool.{false, _||_};
+ghost use mathlib.Core.Bool.{cond, false, _&&_, _||_};
 ghost use mathlib.Core.List.{[], _∷_};
 ghost use Prim.Native.Nat.{_+_, _*_, _≤_};
 ghost use lib.ListN.{length};
+ghost use Rattle.laws.specs.Answer.{answer};
 ghost use Rattle.laws.specs.Strokes.{RunsWithin};
+ghost use Rattle.float.specs.Within.{allWithin, nought};
 ghost use Rattle.refusal.specs.Refusals.{Sized, lowest, sizeIf, lengthIf, badSize};
 ghost use Rattle.refusal.specs.Lengths.{badPicture};
+ghost use Rattle.tally.specs.Tally.{totalOf};
 ghost use Rattle.cover.specs.Cover.{badPlaces};
 ghost use Rattle.picture.specs.declared.Colour.{Colour};
 ghost use Rattle.picture.specs.Painting.{BlendSays};
 ghost use Rattle.picture.specs.Strokes.{brushedPart, brushedRows, pixelColour, Coloured, pairPut, pixelPut, RowsWithin};
-ghost use Rattle.picture.specs.Pixels.{BadColourSays, FillSays, FilledCanvasSays, fillRefusal, MeanRgbSays, SseTotalSays, TotalAnySays};
+ghost use Rattle.picture.specs.Pixels.{BadColourSays, FillSays, FilledCanvasSays, fillRefusal, meanAnswer, meanOf, MeanRgbSays, noColour, SseTotalSays, totalAnswer, TotalAnySays};
 use brush::Brush;
 use cover::Kind;
 use cover::reached::Rows;
-
-mod means;
-mod parts;
-pub mod running;
-mod totals;
+use tally::means::Summed;
+use tally::totals::Totalled;
 
 pub struct Colour {
     pub red: f32,
@@ -168,9 +168,26 @@ pub fn mean_rgb(w: usize, h: usize, target: &[f32]) -> Mean
 {
     let number = refused(w, h, target.len());
     if number == 0 {
-        means::mean_tested(w, h, target)
+        mean_tested(w, h, target)
     } else {
         Mean::Refused(number)
+    }
+}
+
+// Then the pixels.
+fn mean_tested(w: usize, h: usize, target: &[f32]) -> Mean
+    requires { ⌜ Sized w h × (length (now target) ≡ h * w * 3) ⌝ }
+    ensures { λ r. ⌜ meanAnswer r ≡ answer (cond (allWithin (now (target .entry))) 0 7) (meanOf w h (now (target .entry))) noColour ⌝ }
+{
+    let n = h * w;
+    let summed = tally::means::sums_within(target, n);
+    match summed {
+        Summed::Of(sums) => Mean::Done(Colour {
+            red: tally::means::share(sums.red, n),
+            green: tally::means::share(sums.green, n),
+            blue: tally::means::share(sums.blue, n),
+        }),
+        Summed::Beyond => Mean::Refused(refusal::PIXEL),
     }
 }
 
@@ -182,7 +199,7 @@ pub fn sse_total(w: usize, h: usize, target: &[f32], canvas: &[f32]) -> Total
 {
     let number = total_refusal(w, h, target.len(), canvas.len());
     if number == 0 {
-        totals::total_tested(target, canvas)
+        total_tested(target, canvas)
     } else {
         Total::Refused(number)
     }
@@ -199,6 +216,18 @@ fn total_refusal(w: usize, h: usize, n: usize, m: usize) -> u8
     refused(w, h, m)
 }
 
+// Then the pixels.
+fn total_tested(target: &[f32], canvas: &[f32]) -> Total
+    requires { ⌜ length (now target) ≡ length (now canvas) ⌝ }
+    ensures { λ r. ⌜ totalAnswer r ≡ answer (cond (allWithin (now (target .entry)) && allWithin (now (canvas .entry))) 0 7) (totalOf (now (target .entry)) (now (canvas .entry))) nought ⌝ }
+{
+    let totalled = tally::totals::total_within(target, canvas);
+    match totalled {
+        Totalled::Of(sum) => Total::Done(sum),
+        Totalled::Beyond => Total::Refused(refusal::PIXEL),
+    }
+}
+
 // A total without the tests, for any bits.
 pub fn total_any(target: &[f32], canvas: &[f32]) -> f64
     requires { ⌜ length (now target) ≡ length (now canvas) ⌝ }
@@ -207,7 +236,7 @@ pub fn total_any(target: &[f32], canvas: &[f32]) -> f64
     let n = target.len();
     let mut sum = 0.0f64;
     for i in 0..n {
-        sum = sum + totals::squared_any(target[i], canvas[i]);
+        sum = sum + tally::totals::squared_any(target[i], canvas[i]);
     }
     sum
 }
