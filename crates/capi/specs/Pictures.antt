@@ -5,7 +5,8 @@ use Prim.Native.Nat.{ℕ}
 use lib.Ieee.{Float}
 use Rattle.grade.specs.Levels.{AlphaLevelsSays}
 use Rattle.picture.specs.declared.Colour.{Colour}
-use Rattle.picture.specs.Pixels.{FilledCanvasSays, meanRefusal, meanOf, totalRefusal, totalOf}
+use Rattle.tally.specs.Tally.{totalOf}
+use Rattle.picture.specs.Pixels.{FilledCanvasSays, meanRefusal, meanOf, totalRefusal}
 use Rattle.capi.specs.declared.SillbadgerAnswer.{SillbadgerAnswer}
 use Rattle.capi.specs.Answers.{answered, colourTold, totalTold}
 

@@ -52,7 +52,8 @@ use Rattle.picture.specs.declared.Mean.{Mean}
 use Rattle.picture.specs.declared.Total.{Total}
 use Rattle.picture.specs.Painting.{blended}
 use Rattle.picture.specs.PaintingLaws.{painted-at}
-use Rattle.picture.specs.Pixels.{noColour, channelSum, channelMean, meanOf, meanRefusal, meanAnswer, MeanRgbSays, totalOf, totalRefusal, totalAnswer, SseTotalSays}
+use Rattle.tally.specs.Tally.{channelSum, totalOf}
+use Rattle.picture.specs.Pixels.{noColour, channelMean, meanOf, meanRefusal, meanAnswer, MeanRgbSays, totalRefusal, totalAnswer, SseTotalSays}
 use Rattle.paint.specs.Paint.{PaintSays}
 use Rattle.shapes.specs.declared.Shapes.{Shapes}
 use Rattle.shapes.specs.declared.Candidates.{Candidates}

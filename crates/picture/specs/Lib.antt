@@ -1,10 +1,8 @@
 -- What a reader must believe.
 pub mod Pixels
-pub mod Rows
 pub mod Painting
 pub mod Strokes
 -- What follows.
 pub mod PixelLaws
 pub mod PaintingLaws
-pub mod RowTotals
 pub mod Places

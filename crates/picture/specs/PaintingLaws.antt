@@ -22,6 +22,7 @@ use Rattle.laws.specs.Fit.{no-both}
 use Rattle.refusal.specs.Refusals.{Sized}
 use Rattle.float.specs.Within.{within, allWithin}
 use Rattle.float.specs.BlendLaws.{paint-within}
+use Rattle.tally.specs.TallyLaws.{within-at}
 use Rattle.cover.specs.declared.Kind.{Kind}
 use Rattle.cover.specs.Cover.{covered, reach}
 use Rattle.cover.specs.declared.reached.Rows.{Rows}
@@ -32,7 +33,7 @@ use Rattle.brush.specs.declared.Brush.{Brush}
 use Rattle.brush.specs.Brushes.{brushOf, mixed}
 use Rattle.picture.specs.Painting.{blended, painted, BlendSays}
 use Rattle.picture.specs.Pixels.{badColour}
-use Rattle.picture.specs.PixelLaws.{within-at, colour-within}
+use Rattle.picture.specs.PixelLaws.{colour-within}
 use Rattle.picture.specs.Strokes.{brushedPart, brushedRows, RowsWithin}
 
 pub BlendSays-unique : (kind : Kind) (opacity red green blue : Float) (w h : ℕ) (old new also : List Float)

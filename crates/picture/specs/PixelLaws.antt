@@ -1,46 +1,44 @@
--- Laws: the steps of fill, mean and total; the difference of two values within 0..1 is a number; a filled picture, a mean; each promise has one answer.
-use mathlib.Core.Path.{_≡_, refl, sym, ap, _∙_, subst}
-use mathlib.Core.Logic.{⊎-elim, _⊎_, inl, inr}
+-- Laws: the steps of fill; a filled picture; what the sums of a mean and a total answer; each promise has one answer.
+use mathlib.Core.Path.{_≡_, refl, sym, ap, _∙_}
+use mathlib.Core.Logic.{⊎-elim}
 use mathlib.Core.Bool.{Bool, true, false, not, _&&_, _||_, cond, true≢false}
 use mathlib.Core.List.{List, [], _∷_}
-use Prim.Native.Nat.{ℕ, zero, suc, _+_, _-_, _*_, _/_, _%_, _≤_, _<_, min}
-use native.Mathlib.Nat.{mul-le-mul, lt-of-lt-of-le, le-of-eq}
+use Prim.Native.Nat.{ℕ, zero, suc, _+_, _*_, _/_, _%_, _≤_, _<_}
+use native.Mathlib.Nat.{mul-le-mul, div-add-mod', mod-lt}
 use native.Mathlib.Omega.{arith}
 use lib.Dec.{T, eqb}
-use lib.ListN.{length, getD, take, set, length-set}
+use lib.ListN.{length, getD, set, length-set}
 use lib.IntN.{pos}
-use lib.Seq.{take-all, take-take, getD-take, length-take-le}
-use lib.Ieee.{Float, nan, inf, fin, Format, binary64, add, sub, neg, ofInt}
+use lib.Seq.{getD-set-same, getD-set-other}
+use lib.Ieee.{Float, nan, binary64, ofInt}
 use lib.Ieee.Fits.{and-l, and-r}
-use Rattle.laws.specs.Answer.{Answer}
-use Rattle.laws.specs.Bools.{is-true, true-is, true-or-false, and-left, and-right, and-both, or-left, or-right}
-use Rattle.laws.specs.Before.{before}
-use Rattle.laws.specs.BeforeLaws.{before-none, before-more}
-use Rattle.laws.specs.EveryLaws.{every-each, every-take}
-use Rattle.laws.specs.F64.{_⊕_, _⊘_}
-use Rattle.laws.specs.Fit.{no-both}
-use Rattle.laws.specs.Fill.{agree-more, agree-all}
-use Rattle.laws.specs.Index.{index-mod}
+use Rattle.laws.specs.Answer.{Answer, answer}
+use Rattle.laws.specs.Bools.{or-left, or-right}
+use Rattle.laws.specs.F64.{_⊘_}
 use Rattle.laws.specs.Pictures.{plain, channelOf}
-use Rattle.laws.specs.PictureLaws.{length-list, list-number, list-every}
+use Rattle.laws.specs.PictureLaws.{length-list, numbers-list, list-every}
 use Rattle.laws.specs.StrokeLaws.{le-or-lt}
-use Rattle.float.specs.Within.{nought, number, within, allWithin}
+use Rattle.float.specs.Within.{nought, within, allWithin}
 use Rattle.float.specs.Narrowed.{narrowed}
-use Rattle.float.specs.WithinLaws.{Says, says, within-number}
-use Rattle.float.specs.MarksLaws.{sum-number}
 use Rattle.refusal.specs.Refusals.{Sized, badSize, lowest, sizeIf, lengthIf, pixelIf}
 use Rattle.refusal.specs.Lengths.{badPicture}
 use Rattle.refusal.specs.LengthLaws.{picture-length}
 use Rattle.refusal.specs.RefusalLaws.{sized}
 use Rattle.refusal.specs.ThreeTests.{passed, two-passed, at-third, at-none}
+use Rattle.tally.specs.declared.means.Sums.{Sums}
+use Rattle.tally.specs.declared.means.Summed.{Summed}
+use Rattle.tally.specs.declared.means.Summed.the-variants as summed
+use Rattle.tally.specs.declared.totals.Totalled.{Totalled}
+use Rattle.tally.specs.declared.totals.Totalled.the-variants as totalled
+use Rattle.tally.specs.Tally.{sumsTo, SumsWithinSays, ShareSays, totalOf, TotalWithinSays}
+use Rattle.tally.specs.TallyLaws.{sums-are}
 use Rattle.picture.specs.declared.Colour.{Colour}
-use Rattle.picture.specs.declared.means.Sums.{Sums}
 use Rattle.picture.specs.declared.Mean.{Mean}
 use Rattle.picture.specs.declared.Mean.the-variants as mean
 use Rattle.picture.specs.declared.Total.{Total}
 use Rattle.picture.specs.declared.Total.the-variants as total
-use Rattle.picture.specs.Strokes.{pixelPut}
-use Rattle.picture.specs.Pixels.{badColour, BadColourSays, filled, fillRefusal, FillSays, FilledCanvasSays, channelSum, sumsTo, channelMean, meanOf, meanRefusal, meanAnswer, MeanRgbSays, squaredDifference, totalOf, totalTo, totalRefusal, totalAnswer, SseTotalSays, TotalAnySays}
+use Rattle.picture.specs.Strokes.{pixelPut, pairPut, pixelColour, Coloured}
+use Rattle.picture.specs.Pixels.{badColour, BadColourSays, filled, fillRefusal, FillSays, FilledCanvasSays, channelMean, noColour, meanOf, meanRefusal, meanAnswer, MeanRgbSays, totalRefusal, totalAnswer, SseTotalSays, TotalAnySays}
 
 -- ---- each promise has one answer
 pub BadColourSays-unique : (red green blue : Float) (r s : Bool) → BadColourSays red green blue r → BadColourSays red green blue s → r ≡ s
@@ -99,152 +97,111 @@ colour-within red green blue e = by
     by (suc (suc ch)) = and-r (within red && within green) (within blue) three
 
 -- ---- fill: pixel i is written
+colour-same : (r g b x y z : Float) → r ≡ x → g ≡ y → b ≡ z → _≡_ {A = Colour} (record { red = r; green = g; blue = b }) (record { red = x; green = y; blue = z })
+colour-same r g b x y z p q u = rw (p, q, u) refl
 
--- a colour under other names
-abbrev pub Like : Float → Float → Float → Float → Float → Float → Type 0
-Like red green blue r g b = (r ≡ red) × (g ≡ green) × (b ≡ blue)
+module _ (l : List Float) (i : ℕ) (c : Colour) where
+  -- the numbers of a pixel that was put, and those of the others
+  put-here : i * 3 + 3 ≤ length l → pixelColour i (pixelPut i c l) ≡ c
+  put-here h =
+      let l1 = set l (i * 3) (c .red) in
+      let l2 = set l1 (i * 3 + 1) (c .green) in
+      let e1 = length-set l (i * 3) (c .red) in
+      let e2 = length-set l1 (i * 3 + 1) (c .green) in
+      colour-same _ _ _ _ _ _
+      (getD-set-other l2 (i * 3 + 2) (i * 3) (c .blue) nan (λ e. absurd (omega (arith, e)))
+      ∙ getD-set-other l1 (i * 3 + 1) (i * 3) (c .green) nan (λ e. absurd (omega (arith, e)))
+      ∙ getD-set-same l (i * 3) (c .red) nan (omega arith))
+      (getD-set-other l2 (i * 3 + 2) (i * 3 + 1) (c .blue) nan (λ e. absurd (omega (arith, e))) ∙ getD-set-same l1 (i * 3 + 1) (c .green) nan (omega (arith, e1)))
+      (getD-set-same l2 (i * 3 + 2) (c .blue) nan (omega (arith, e1, e2)))
+
+  put-apart : (j : ℕ) → j < i * 3 → getD (pixelPut i c l) j nan ≡ getD l j nan
+  put-apart j k =
+      getD-set-other (set (set l (i * 3) (c .red)) (i * 3 + 1) (c .green)) (i * 3 + 2) j (c .blue) nan (λ e. absurd (omega (arith, e)))
+      ∙ getD-set-other (set l (i * 3) (c .red)) (i * 3 + 1) j (c .green) nan (λ e. absurd (omega (arith, e)))
+      ∙ getD-set-other l (i * 3) j (c .red) nan (λ e. absurd (omega (arith, e)))
+
+module _ (c : Colour) where
+  pub coloured-none : (l : List Float) → Coloured c 0 l
+  coloured-none l = record { each = λ i k. absurd (omega (arith, k)) }
+
+  pub coloured-first : (m n : ℕ) (l : List Float) → m ≤ n → Coloured c n l → Coloured c m l
+  coloured-first m n l h f = record { each = λ i k. f .each i (omega arith) }
+
+  -- one more
+  pub coloured-put : (i j : ℕ) (p : Colour) (l m : List Float) → m ≡ pixelPut i p l → j ≡ i + 1 → i * 3 + 3 ≤ length l → p ≡ c → Coloured c i l → Coloured c j m
+  coloured-put i j p l m e n h q f = rw (e, n, q) (record { each = by })
+    where
+      by : (k : ℕ) → k < i + 1 → pixelColour k (pixelPut i c l) ≡ c
+      by k a =
+          ⊎-elim
+          (λ (b : i ≤ k). let z : k ≡ i = omega arith in ap (λ (t : ℕ). pixelColour t (pixelPut i c l)) z ∙ put-here l i c h)
+          (λ (b : k < i).
+          colour-same _ _ _ _ _ _ (put-apart l i c (k * 3) (omega arith)) (put-apart l i c (k * 3 + 1) (omega arith)) (put-apart l i c (k * 3 + 2) (omega arith))
+          ∙ f .each k b)
+          (le-or-lt i k)
+
+  -- and two
+  pub coloured-pair : (i j k : ℕ) (p q : Colour) (l m : List Float) → m ≡ pairPut i p q l → j ≡ i * 2 → k ≡ i * 2 + 2 → i * 6 + 6 ≤ length l → p ≡ c → q ≡ c → Coloured c j l → Coloured c k m
+  coloured-pair i j k p q l m e n o h a b f =
+      let l1 = pixelPut (i * 2) p l in
+      let n1 : length l1 ≡ length l = simp length-set refl in
+      coloured-put (i * 2 + 1) k q l1 m e (omega arith) (omega (arith, n1)) b (coloured-put (i * 2) (i * 2 + 1) p l l1 refl refl (omega arith) a (rw n at f))
 
 module _ (w h : ℕ) (red green blue : Float) where
   pub length-filled : length (filled w h red green blue) ≡ h * w * 3
   length-filled = length-list w h (plain red green blue)
 
-  filled-at : (i ch : ℕ) → i < h * w → ch < 3 → getD (filled w h red green blue) (i * 3 + ch) nan ≡ channelOf red green blue ch
-  filled-at i ch l c =
-      list-number w h (plain red green blue) (i * 3 + ch) nan (omega arith)
-      ∙ ap (channelOf red green blue) (index-mod 3 i ch c)
-
-  fill-more : (l : List Float) (i : ℕ) → length l ≡ h * w * 3 → i < h * w → take (i * 3) l ≡ take (i * 3) (filled w h red green blue)
-      → take ((i + 1) * 3) (set (set (set l (i * 3) red) (i * 3 + 1) green) (i * 3 + 2) blue) ≡ take ((i + 1) * 3) (filled w h red green blue)
-  fill-more l i e k p =
-      let s = filled w h red green blue in
-      let z : i * 3 ≡ i * 3 + 0 = omega arith in
-      let t : (i + 1) * 3 ≡ i * 3 + 2 + 1 = omega arith in
-      let o : i * 3 + 2 ≡ i * 3 + 1 + 1 = omega arith in
-      let l1 = set l (i * 3) red in
-      let l2 = set l1 (i * 3 + 1) green in
-      let e1 : length l1 ≡ length s = length-set l (i * 3) red ∙ e ∙ sym length-filled in
-      let e2 : length l2 ≡ length s = length-set l1 (i * 3 + 1) green ∙ e1 in
-      let a = agree-more l s (i * 3) nan red (e ∙ sym length-filled) (omega arith) p (sym (ap (λ (j : ℕ). getD s j nan) z ∙ filled-at i 0 k (omega arith))) in
-      let b = agree-more l1 s (i * 3 + 1) nan green e1 (omega (arith, length-set l (i * 3) red)) a (sym (filled-at i 1 k (omega arith))) in
-      let b' : take (i * 3 + 2) l2 ≡ take (i * 3 + 2) s = rw o b in
-      rw t (agree-more l2 s (i * 3 + 2) nan blue e2 (omega (arith, length-set l1 (i * 3 + 1) green, length-set l (i * 3) red)) b' (sym (filled-at i 2 k (omega arith))))
-
-  -- the first i pixels of l are written
-  pub record FilledTo (i : ℕ) (l : List Float) : Type 0 where
-    pub size : length l ≡ h * w * 3
-    pub first : take (i * 3) l ≡ take (i * 3) (filled w h red green blue)
-
-  pub fill-none : (l : List Float) → length l ≡ h * w * 3 → FilledTo 0 l
-  fill-none l e = record { size = e; first = refl }
-
-  -- one more
-  pub fill-put : (l m : List Float) (i j : ℕ) (r g b : Float) → m ≡ pixelPut i r g b l → j ≡ i + 1 → i < h * w
-      → Like red green blue r g b → FilledTo i l → FilledTo j m
-  fill-put l m i j r g b e n k (p, q, s) f = rw (e, n, p, q, s) (record {
-    size = simp length-set (f .size);
-    first = fill-more l i (f .size) k (f .first);
-  })
-
   -- all are written
-  pub fill-done : (l : List Float) (i : ℕ) → h * w ≤ i → FilledTo i l → l ≡ filled w h red green blue
-  fill-done l i n f = agree-all l (filled w h red green blue) (i * 3) (f .size ∙ sym length-filled) (omega (arith, length-filled)) (f .first)
-
-  -- a pixel that is written has the colour
-  written : (l : List Float) (i j ch : ℕ) → j < i → i ≤ h * w → ch < 3 → FilledTo i l → getD l (j * 3 + ch) nan ≡ channelOf red green blue ch
-  written l i j ch a b c f =
-      let k = j * 3 + ch in
-      let m : k < i * 3 = omega arith in
-      sym (getD-take (i * 3) l k nan m)
-      ∙ ap (λ (t : List Float). getD t k nan) (f .first)
-      ∙ getD-take (i * 3) (filled w h red green blue) k nan m
-      ∙ filled-at j ch (omega arith) c
-
-  pub written-pixel : (l : List Float) (i j : ℕ) → j < i → i ≤ h * w → FilledTo i l
-      → Like red green blue (getD l (j * 3) nan) (getD l (j * 3 + 1) nan) (getD l (j * 3 + 2) nan)
-  written-pixel l i j a b f =
-      let z : j * 3 ≡ j * 3 + 0 = omega arith in (
-        ap (λ (k : ℕ). getD l k nan) z ∙ written l i j 0 a b (omega arith) f,
-        written l i j 1 a b (omega arith) f,
-        written l i j 2 a b (omega arith) f,
-      )
+  pub coloured-all : (n : ℕ) (l : List Float) → length l ≡ h * w * 3 → h * w ≤ n → Coloured (record { red = red; green = green; blue = blue }) n l → l ≡ filled w h red green blue
+  coloured-all n l e k f = numbers-list w h (plain red green blue) nan l e (λ i m. ap (λ (j : ℕ). getD l j nan) (sym (div-add-mod' i 3)) ∙ by (i / 3) (i % 3) (omega arith) (mod-lt i (omega arith)))
+    where
+      by : (j ch : ℕ) → j < n → ch < 3 → getD l (j * 3 + ch) nan ≡ channelOf red green blue ch
+      by j zero a b = let z : j * 3 + 0 ≡ j * 3 = omega arith in ap (λ (k : ℕ). getD l k nan) z ∙ ap (λ (t : Colour). t .red) (f .each j a)
+      by j (suc zero) a b = ap (λ (t : Colour). t .green) (f .each j a)
+      by j (suc (suc zero)) a b = ap (λ (t : Colour). t .blue) (f .each j a)
+      by j (suc (suc (suc ch))) a b = absurd (omega (arith, b))
 
   -- a colour within 0..1 fills a picture within 0..1
   pub filled-within : badColour red green blue ≡ false → T (allWithin (filled w h red green blue))
   filled-within e = list-every w h within (plain red green blue) nan (λ ch y x c l m. colour-within red green blue e ch)
 
--- ---- mean: pixel i is added
-pub sum-none : (target : List Float) (ch : ℕ) → nought ≡ channelSum target ch 0
-unfolding channelSum
-sum-none target ch = sym (before-none nought _⊕_ (λ i. getD target (i * 3 + ch) nan))
+-- ---- mean, of what the sums say
+abbrev colour-shared : ℕ → Sums → Colour
+colour-shared n s = record {
+  red = narrowed (s .red ⊘ ofInt binary64 (pos n));
+  green = narrowed (s .green ⊘ ofInt binary64 (pos n));
+  blue = narrowed (s .blue ⊘ ofInt binary64 (pos n));
+}
 
-pub sum-more : (target : List Float) (ch i j : ℕ) (s v : Float) → j ≡ i * 3 + ch → s ≡ channelSum target ch i → v ≡ getD target j nan → s ⊕ v ≡ channelSum target ch (i + 1)
-unfolding channelSum
-sum-more target ch i j s v e p q =
-    ap (λ (t : Float). t ⊕ v) p
-    ∙ ap (λ (t : Float). before nought _⊕_ (λ k. getD target (k * 3 + ch) nan) i ⊕ t) (q ∙ ap (λ (k : ℕ). getD target k nan) e)
-    ∙ before-more nought _⊕_ (λ k. getD target (k * 3 + ch) nan) i
+abbrev mean-of : ℕ → Summed → Mean
+mean-of n (summed.Of s) = mean.Done (colour-shared n s)
+mean-of n summed.Beyond = mean.Refused 7
 
-abbrev sums-of : Float → Float → Float → Sums
-sums-of r g b = record { red = r; green = g; blue = b }
+mean-right : (w h : ℕ) (target : List Float) → colour-shared (h * w) (sumsTo target (h * w)) ≡ meanOf w h target
+unfolding meanOf channelMean
+mean-right w h target = ap (colour-shared (h * w)) (sums-are target (h * w))
 
-sums-same : (r g b x y z : Float) → r ≡ x → g ≡ y → b ≡ z → sums-of r g b ≡ sums-of x y z
-sums-same r g b x y z p q u = ap (λ (k : Float). sums-of k g b) p ∙ ap (λ (k : Float). sums-of x k b) q ∙ ap (λ (k : Float). sums-of x y k) u
+module _ (w h : ℕ) (target : List Float) (r : Summed) (says : SumsWithinSays target (h * w) r) where
+  answered : meanAnswer (mean-of (h * w) r) ≡ answer (cond (allWithin target) 0 7) (meanOf w h target) noColour
+  answered = ap (λ (t : Summed). meanAnswer (mean-of (h * w) t)) says ∙ by (allWithin target) ∙ ap (λ (c : Colour). answer (cond (allWithin target) 0 7) c noColour) (mean-right w h target)
+    where
+      by : (b : Bool) → meanAnswer (mean-of (h * w) (cond b (summed.Of (sumsTo target (h * w))) summed.Beyond)) ≡ answer (cond b 0 7) (colour-shared (h * w) (sumsTo target (h * w))) noColour
+      by true = refl
+      by false = refl
 
-pub sums-none : (target : List Float) → sums-of nought nought nought ≡ sumsTo target 0
-unfolding sumsTo
-sums-none target = sums-same nought nought nought _ _ _ (sum-none target 0) (sum-none target 1) (sum-none target 2)
+  pub mean-done : (s : Sums) (red green blue : Float) → r ≡ summed.Of s → ShareSays (s .red) (h * w) red → ShareSays (s .green) (h * w) green → ShareSays (s .blue) (h * w) blue
+      → meanAnswer (mean.Done (record { red = red; green = green; blue = blue })) ≡ answer (cond (allWithin target) 0 7) (meanOf w h target) noColour
+  mean-done s red green blue e p q u =
+      ap (λ (c : Colour). meanAnswer (mean.Done c)) (colour-same red green blue _ _ _ p q u)
+      ∙ ap (λ (t : Summed). meanAnswer (mean-of (h * w) t)) (sym e)
+      ∙ answered
 
--- pixel i, whose three numbers were added
-pub sums-more : (target : List Float) (i : ℕ) (s : Sums) (r g b : Float) → s ≡ sumsTo target i
-    → r ≡ getD target (i * 3) nan → g ≡ getD target (i * 3 + 1) nan → b ≡ getD target (i * 3 + 2) nan
-    → sums-of (s .red ⊕ r) (s .green ⊕ g) (s .blue ⊕ b) ≡ sumsTo target (i + 1)
-unfolding sumsTo
-sums-more target i s r g b p q u v =
-    sums-same (s .red ⊕ r) (s .green ⊕ g) (s .blue ⊕ b) _ _ _
-    (sum-more target 0 i (i * 3) (s .red) r (omega arith) (ap (λ (z : Sums). z .red) p) q)
-    (sum-more target 1 i (i * 3 + 1) (s .green) g refl (ap (λ (z : Sums). z .green) p) u)
-    (sum-more target 2 i (i * 3 + 2) (s .blue) b refl (ap (λ (z : Sums). z .blue) p) v)
-
-pub mean-all : (w h : ℕ) (target : List Float) (n : ℕ) (s : Sums) (r g b : Float) → n ≡ h * w → s ≡ sumsTo target n
-    → r ≡ narrowed (s .red ⊘ ofInt binary64 (pos n)) → g ≡ narrowed (s .green ⊘ ofInt binary64 (pos n)) → b ≡ narrowed (s .blue ⊘ ofInt binary64 (pos n))
-    → _≡_ {A = Colour} (record { red = r; green = g; blue = b }) (meanOf w h target)
-unfolding meanOf channelMean sumsTo
-mean-all w h target n s r g b e p u v z = simp (u, v, z, p, e)
+  pub mean-beyond : r ≡ summed.Beyond → meanAnswer (mean.Refused 7) ≡ answer (cond (allWithin target) 0 7) (meanOf w h target) noColour
+  mean-beyond e = ap (λ (t : Summed). meanAnswer (mean-of (h * w) t)) (sym e) ∙ answered
 
 pub few-pixels : (w h : ℕ) → Sized w h → h * w ≤ 65536
 few-pixels w h s = mul-le-mul (s .h-high) (s .w-high)
-
--- ---- total: number i is added
-pub total-none : (target canvas : List Float) → nought ≡ totalTo target canvas 0
-unfolding totalTo
-total-none target canvas = sym (before-none nought _⊕_ (λ i. squaredDifference (getD target i nan) (getD canvas i nan)))
-
-pub total-more : (target canvas : List Float) (i : ℕ) (s v : Float) → s ≡ totalTo target canvas i → v ≡ squaredDifference (getD target i nan) (getD canvas i nan) → s ⊕ v ≡ totalTo target canvas (i + 1)
-unfolding totalTo
-total-more target canvas i s v p q =
-    ap (λ (t : Float). t ⊕ v) p
-    ∙ ap (λ (t : Float). totalTo target canvas i ⊕ t) q
-    ∙ before-more nought _⊕_ (λ k. squaredDifference (getD target k nan) (getD canvas k nan)) i
-
-pub total-all : (target canvas : List Float) (n : ℕ) (s : Float) → n ≡ length target → s ≡ totalTo target canvas n → s ≡ totalOf target canvas
-unfolding totalTo totalOf
-total-all target canvas n s e p = p ∙ ap (totalTo target canvas) e
-
--- ---- the difference of two values within 0..1 is a number
-pub difference-number : (f : Format) (x y : Float) → T (within x) → T (within y) → T (number (sub f x y))
-unfolding sub add neg
-difference-number f x y h k = go x y (says x h) (says y k)
-  where
-    go : (x y : Float) → Says x → Says y → T (number (sub f x y))
-    go nan y p q = absurd p
-    go (inf s) y p q = absurd p
-    go (fin s m e) nan p q = absurd q
-    go (fin s m e) (inf t) p q = absurd q
-    go (fin s m e) (fin t n d) p q = sum-number f s _ (not t) _ _
-
--- an element of a picture within 0..1
-pub within-at : (xs : List Float) (k : ℕ) → T (allWithin xs) → k < length xs → T (within (getD xs k nan))
-within-at xs k h l = every-each within xs k nan h l
 
 -- ---- what 0 gives: every test was passed
 pub fill-passed : (w h : ℕ) (red green blue : Float) (n : ℕ) → fillRefusal w h red green blue n ≡ 0 → Sized w h × (n ≡ h * w * 3) × (badColour red green blue ≡ false)
@@ -292,39 +249,15 @@ pixels-last w h target canvas e =
     either true b = refl
     either false b = refl
 
--- the first numbers are not within 0..1, or all are
-pub first-bad : (t : List Float) (k : ℕ) → allWithin (take k t) ≡ false → allWithin t ≡ false
-first-bad t k h =
-    ⊎-elim (λ (y : allWithin t ≡ true). no-both (is-true (allWithin (take k t)) (every-take within k t (true-is (allWithin t) y))) h) (λ (n : allWithin t ≡ false). n)
-    (true-or-false (allWithin t))
+-- ---- total, of what the sum says
+abbrev total-of : Totalled → Total
+total-of (totalled.Of s) = total.Done s
+total-of totalled.Beyond = total.Refused 7
 
-pub first-all : (t : List Float) (k : ℕ) → length t ≤ k → T (allWithin (take k t)) → allWithin t ≡ true
-first-all t k h p = ap allWithin (sym (take-all k t h)) ∙ is-true (allWithin (take k t)) p
-
--- of two pictures
-pub part-bad : (t c : List Float) (k : ℕ) → allWithin (take k t) && allWithin (take k c) ≡ false → allWithin t && allWithin c ≡ false
-part-bad t c k h =
-    ⊎-elim
-    (λ (y : allWithin t && allWithin c ≡ true).
-    no-both
-    (and-both (allWithin (take k t)) (allWithin (take k c))
-    (is-true (allWithin (take k t)) (every-take within k t (true-is (allWithin t) (and-left (allWithin t) (allWithin c) y))))
-    (is-true (allWithin (take k c)) (every-take within k c (true-is (allWithin c) (and-right (allWithin t) (allWithin c) y)))))
-    h)
-    (λ (n : allWithin t && allWithin c ≡ false). n)
-    (true-or-false (allWithin t && allWithin c))
-
-pub part-all : (t c : List Float) (k : ℕ) → length t ≤ k → length c ≤ k → T (allWithin (take k t)) → T (allWithin (take k c)) → allWithin t && allWithin c ≡ true
-part-all t c k h l p q = and-both (allWithin t) (allWithin c) (first-all t k h p) (first-all c k l q)
-
--- an element of the first numbers
-pub within-before : (xs : List Float) (n k : ℕ) → T (allWithin (take n xs)) → k < n → n ≤ length xs → T (within (getD xs k nan))
-within-before xs n k h l m =
-    subst (λ (x : Float). T (within x)) (getD-take n xs k nan l) (within-at (take n xs) k h (lt-of-lt-of-le l (le-of-eq (sym (length-take-le n xs m)))))
-
-pub number-before : (xs : List Float) (n k : ℕ) → T (allWithin (take n xs)) → k < n → n ≤ length xs → T (number (getD xs k nan))
-number-before xs n k h l m = within-number (getD xs k nan) (within-before xs n k h l m)
-
--- the first i of numbers that are within 0..1 are
-pub within-first : (xs : List Float) (i n : ℕ) → i ≤ n → T (allWithin (take n xs)) → T (allWithin (take i xs))
-within-first xs i n h p = subst (λ (l : List Float). T (allWithin l)) (take-take i n xs h) (every-take within i (take n xs) p)
+pub total-told : (target canvas : List Float) (r t : Totalled) → TotalWithinSays target canvas r → r ≡ t
+    → totalAnswer (total-of t) ≡ answer (cond (allWithin target && allWithin canvas) 0 7) (totalOf target canvas) nought
+total-told target canvas r t says e = ap (λ (u : Totalled). totalAnswer (total-of u)) (sym e ∙ says) ∙ by (allWithin target && allWithin canvas)
+  where
+    by : (b : Bool) → totalAnswer (total-of (cond b (totalled.Of (totalOf target canvas)) totalled.Beyond)) ≡ answer (cond b 0 7) (totalOf target canvas) nought
+    by true = refl
+    by false = refl

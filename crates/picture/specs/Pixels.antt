@@ -2,22 +2,20 @@
 use mathlib.Core.Path.{_≡_}
 use mathlib.Core.Bool.{Bool, true, false, not, _&&_, _||_, cond}
 use mathlib.Core.List.{List, [], _∷_}
-use Prim.Native.Nat.{ℕ, _+_, _*_}
+use Prim.Native.Nat.{ℕ, _*_}
 use lib.Dec.{eqb}
 use lib.IntN.{pos}
-use lib.ListN.{length, getD}
-use lib.Ieee.{Float, nan, binary64, ofInt}
+use lib.ListN.{length}
+use lib.Ieee.{Float, binary64, ofInt}
 use Rattle.laws.specs.Answer.{Answer, answer}
-use Rattle.laws.specs.Before.{before}
-use Rattle.laws.specs.F32.{_⊟_}
-use Rattle.laws.specs.F64.{_⊕_, _⊗_, _⊘_}
+use Rattle.laws.specs.F64.{_⊘_}
 use Rattle.laws.specs.Pictures.{listOf, plain}
 use Rattle.float.specs.Narrowed.{narrowed}
 use Rattle.float.specs.Within.{nought, within, allWithin}
 use Rattle.refusal.specs.Refusals.{lowest, sizeIf, lengthIf, colourIf, pixelIf, badSize}
 use Rattle.refusal.specs.Lengths.{badPicture}
+use Rattle.tally.specs.Tally.{channelSum, totalOf}
 use Rattle.picture.specs.declared.Colour.{Colour}
-use Rattle.picture.specs.declared.means.Sums.{Sums}
 use Rattle.picture.specs.declared.Mean.{Mean}
 use Rattle.picture.specs.declared.Mean.the-variants as mean
 use Rattle.picture.specs.declared.Total.{Total}
@@ -47,17 +45,6 @@ pub record FilledCanvasSays (w h : ℕ) (red green blue : Float) (old : List Flo
   pub left : new ≡ cond (eqb r 0) (filled w h red green blue) old
 
 -- ---- mean: of each channel the sum over the pixels, in their order, in f64; divided by their count, narrowed
-unfoldable pub channelSum : List Float → ℕ → ℕ → Float
-channelSum target ch n = before nought _⊕_ (λ i. getD target (i * 3 + ch) nan) n
-
--- the three channels' sums over the first i pixels
-unfoldable pub sumsTo : List Float → ℕ → Sums
-sumsTo target i = record {
-  red = channelSum target 0 i;
-  green = channelSum target 1 i;
-  blue = channelSum target 2 i;
-}
-
 unfoldable pub channelMean : List Float → ℕ → ℕ → Float
 channelMean target ch n = narrowed (channelSum target ch n ⊘ ofInt binary64 (pos n))
 
@@ -82,18 +69,7 @@ meanAnswer (mean.Refused k) = record { number = k; value = noColour; done = fals
 abbrev pub MeanRgbSays : ℕ → ℕ → List Float → Mean → Type 0
 MeanRgbSays w h target r = meanAnswer r ≡ answer (meanRefusal w h target) (meanOf w h target) noColour
 
--- ---- total: of each number the difference in f32, widened, squared; added in f64 in slice order
-abbrev pub squaredDifference : Float → Float → Float
-squaredDifference t c = (t ⊟ c) ⊗ (t ⊟ c)
-
-unfoldable pub totalOf : List Float → List Float → Float
-totalOf target canvas =
-    before nought _⊕_ (λ i. squaredDifference (getD target i nan) (getD canvas i nan)) (length target)
-
--- over the first n numbers
-unfoldable pub totalTo : List Float → List Float → ℕ → Float
-totalTo target canvas n = before nought _⊕_ (λ i. squaredDifference (getD target i nan) (getD canvas i nan)) n
-
+-- ---- total: the sum of the squared differences, in slice order
 unfoldable pub totalRefusal : ℕ → ℕ → List Float → List Float → ℕ
 totalRefusal w h target canvas =
     lowest

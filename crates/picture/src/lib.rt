@@ -1,24 +1,25 @@
 // Pictures: fill, mean, total, and shapes blended into them.
 ghost use mathlib.Core.Path.{_≡_};
-ghost use mathlib.Core.Bool.{false, _||_};
+ghost use mathlib.Core.Bool.{cond, false, _&&_, _||_};
 ghost use mathlib.Core.List.{[], _∷_};
 ghost use Prim.Native.Nat.{_+_, _*_, _≤_};
 ghost use lib.ListN.{length};
+ghost use Rattle.laws.specs.Answer.{answer};
 ghost use Rattle.laws.specs.Strokes.{RunsWithin};
+ghost use Rattle.float.specs.Within.{allWithin, nought};
 ghost use Rattle.refusal.specs.Refusals.{Sized, lowest, sizeIf, lengthIf, badSize};
 ghost use Rattle.refusal.specs.Lengths.{badPicture};
+ghost use Rattle.tally.specs.Tally.{totalOf};
 ghost use Rattle.cover.specs.Cover.{badPlaces};
+ghost use Rattle.picture.specs.declared.Colour.{Colour};
 ghost use Rattle.picture.specs.Painting.{BlendSays};
-ghost use Rattle.picture.specs.Strokes.{brushedPart, brushedRows, pixelPut, RowsWithin};
-ghost use Rattle.picture.specs.Pixels.{BadColourSays, FillSays, FilledCanvasSays, fillRefusal, MeanRgbSays, SseTotalSays, TotalAnySays};
+ghost use Rattle.picture.specs.Strokes.{brushedPart, brushedRows, pixelColour, Coloured, pairPut, pixelPut, RowsWithin};
+ghost use Rattle.picture.specs.Pixels.{BadColourSays, FillSays, FilledCanvasSays, fillRefusal, meanAnswer, meanOf, MeanRgbSays, noColour, SseTotalSays, totalAnswer, TotalAnySays};
 use brush::Brush;
 use cover::Kind;
 use cover::reached::Rows;
-
-mod means;
-mod parts;
-pub mod running;
-mod totals;
+use tally::means::Summed;
+use tally::totals::Totalled;
 
 pub struct Colour {
     pub red: f32,
@@ -82,54 +83,81 @@ fn fill_refusal(w: usize, h: usize, red: f32, green: f32, blue: f32, n: usize) -
     0
 }
 
-// The same without the tests, for any colour bits. After the first 16 pixels, four at a time: their twelve numbers are read back
-// from the first four, one after another as they stand, so that the compiler holds and stores them as vectors. Of `red`, `green`
-// and `blue` themselves it makes a store for each number on x86-64.
+// The same without the tests, for any colour bits: the first 16 pixels, then four at a time, then those that are left.
 pub fn fill(w: usize, h: usize, red: f32, green: f32, blue: f32, canvas: &mut [f32])
     requires { ⌜ length (now canvas) ≡ h * w * 3 ⌝ }
     ensures { λ _. ⌜ FillSays w h red green blue (now (canvas .exit)) ⌝ }
 {
     let n = h * w;
+    let colour = Colour { red, green, blue };
     let begun = whole::min_usize(n, 16);
-    for i in 0..begun {
-        put(i, red, green, blue, canvas);
-    }
+    put_each(0, begun, colour, canvas);
     if n <= 16 {
         return;
     }
-    let r0 = canvas[0];
-    let g0 = canvas[1];
-    let b0 = canvas[2];
-    let r1 = canvas[3];
-    let g1 = canvas[4];
-    let b1 = canvas[5];
-    let r2 = canvas[6];
-    let g2 = canvas[7];
-    let b2 = canvas[8];
-    let r3 = canvas[9];
-    let g3 = canvas[10];
-    let b3 = canvas[11];
     let fours = n / 4;
-    for i in 4..fours {
-        put(i * 4, r0, g0, b0, canvas);
-        put(i * 4 + 1, r1, g1, b1, canvas);
-        put(i * 4 + 2, r2, g2, b2, canvas);
-        put(i * 4 + 3, r3, g3, b3, canvas);
-    }
-    for i in fours * 4..n {
-        put(i, red, green, blue, canvas);
+    put_fours(fours, canvas);
+    put_each(fours * 4, n, colour, canvas);
+}
+
+// Pixels `from` up to `to`, one by one.
+fn put_each(from: usize, to: usize, colour: Colour, canvas: &mut [f32])
+    requires { ⌜ to * 3 ≤ length (now canvas) ⌝ }
+    ensures { λ _. ⌜ (Coloured colour from (now (canvas .entry)) → Coloured colour to (now (canvas .exit))) ⌝ }
+{
+    for i in from..to {
+        put(i, colour, canvas);
     }
 }
 
-// Pixel i gets the colour.
-fn put(i: usize, red: f32, green: f32, blue: f32, canvas: &mut [f32])
+// Pixels 16 up to `fours` * 4, after 16 of one colour. Their twelve numbers are read back from the first four, one after another as they
+// stand, so that the compiler holds and stores them as vectors. Of `red`, `green` and `blue` themselves it makes a store for each
+// number on x86-64.
+fn put_fours(fours: usize, canvas: &mut [f32])
+    requires { ⌜ (4 ≤ fours) × (fours * 12 ≤ length (now canvas)) ⌝ }
+    ensures { λ _. ⌜ ((c : Colour) → Coloured c 16 (now (canvas .entry)) → Coloured c (fours * 4) (now (canvas .exit))) ⌝ }
+{
+    let a = colour_at(0, canvas);
+    let b = colour_at(1, canvas);
+    let c = colour_at(2, canvas);
+    let d = colour_at(3, canvas);
+    for i in 4..fours {
+        put_pair(i * 2, a, b, canvas);
+        put_pair(i * 2 + 1, c, d, canvas);
+    }
+}
+
+// The colour of pixel i.
+fn colour_at(i: usize, canvas: &[f32]) -> Colour
     requires { ⌜ i * 3 + 3 ≤ length (now canvas) ⌝ }
-    ensures { λ _. ⌜ now (canvas .exit) ≡ pixelPut i red green blue (now (canvas .entry)) ⌝ }
+    ensures { λ r. ⌜ r ≡ pixelColour i (now (canvas .entry)) ⌝ }
 {
     let k = i * 3;
-    canvas[k] = red;
-    canvas[k + 1] = green;
-    canvas[k + 2] = blue;
+    Colour {
+        red: canvas[k],
+        green: canvas[k + 1],
+        blue: canvas[k + 2],
+    }
+}
+
+// Pixels 2 i and 2 i + 1.
+fn put_pair(i: usize, a: Colour, b: Colour, canvas: &mut [f32])
+    requires { ⌜ i * 6 + 6 ≤ length (now canvas) ⌝ }
+    ensures { λ _. ⌜ now (canvas .exit) ≡ pairPut i a b (now (canvas .entry)) ⌝ }
+{
+    put(i * 2, a, canvas);
+    put(i * 2 + 1, b, canvas);
+}
+
+// Pixel i gets the colour.
+fn put(i: usize, colour: Colour, canvas: &mut [f32])
+    requires { ⌜ i * 3 + 3 ≤ length (now canvas) ⌝ }
+    ensures { λ _. ⌜ now (canvas .exit) ≡ pixelPut i colour (now (canvas .entry)) ⌝ }
+{
+    let k = i * 3;
+    canvas[k] = colour.red;
+    canvas[k + 1] = colour.green;
+    canvas[k + 2] = colour.blue;
 }
 
 // ---- mean
@@ -140,9 +168,26 @@ pub fn mean_rgb(w: usize, h: usize, target: &[f32]) -> Mean
 {
     let number = refused(w, h, target.len());
     if number == 0 {
-        means::mean_tested(w, h, target)
+        mean_tested(w, h, target)
     } else {
         Mean::Refused(number)
+    }
+}
+
+// Then the pixels.
+fn mean_tested(w: usize, h: usize, target: &[f32]) -> Mean
+    requires { ⌜ Sized w h × (length (now target) ≡ h * w * 3) ⌝ }
+    ensures { λ r. ⌜ meanAnswer r ≡ answer (cond (allWithin (now (target .entry))) 0 7) (meanOf w h (now (target .entry))) noColour ⌝ }
+{
+    let n = h * w;
+    let summed = tally::means::sums_within(target, n);
+    match summed {
+        Summed::Of(sums) => Mean::Done(Colour {
+            red: tally::means::share(sums.red, n),
+            green: tally::means::share(sums.green, n),
+            blue: tally::means::share(sums.blue, n),
+        }),
+        Summed::Beyond => Mean::Refused(refusal::PIXEL),
     }
 }
 
@@ -154,7 +199,7 @@ pub fn sse_total(w: usize, h: usize, target: &[f32], canvas: &[f32]) -> Total
 {
     let number = total_refusal(w, h, target.len(), canvas.len());
     if number == 0 {
-        totals::total_tested(target, canvas)
+        total_tested(target, canvas)
     } else {
         Total::Refused(number)
     }
@@ -171,6 +216,18 @@ fn total_refusal(w: usize, h: usize, n: usize, m: usize) -> u8
     refused(w, h, m)
 }
 
+// Then the pixels.
+fn total_tested(target: &[f32], canvas: &[f32]) -> Total
+    requires { ⌜ length (now target) ≡ length (now canvas) ⌝ }
+    ensures { λ r. ⌜ totalAnswer r ≡ answer (cond (allWithin (now (target .entry)) && allWithin (now (canvas .entry))) 0 7) (totalOf (now (target .entry)) (now (canvas .entry))) nought ⌝ }
+{
+    let totalled = tally::totals::total_within(target, canvas);
+    match totalled {
+        Totalled::Of(sum) => Total::Done(sum),
+        Totalled::Beyond => Total::Refused(refusal::PIXEL),
+    }
+}
+
 // A total without the tests, for any bits.
 pub fn total_any(target: &[f32], canvas: &[f32]) -> f64
     requires { ⌜ length (now target) ≡ length (now canvas) ⌝ }
@@ -179,7 +236,7 @@ pub fn total_any(target: &[f32], canvas: &[f32]) -> f64
     let n = target.len();
     let mut sum = 0.0f64;
     for i in 0..n {
-        sum = sum + totals::squared_any(target[i], canvas[i]);
+        sum = sum + tally::totals::squared_any(target[i], canvas[i]);
     }
     sum
 }

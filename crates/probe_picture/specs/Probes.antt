@@ -18,7 +18,8 @@ use Rattle.cover.specs.Cover.{badPlaces, refusalOf, reach}
 use Rattle.crossing.specs.Outlines.{kindOf}
 use Rattle.picture.specs.declared.Colour.{Colour}
 use Rattle.picture.specs.Painting.{painted}
-use Rattle.picture.specs.Pixels.{FilledCanvasSays, noColour, meanOf, meanRefusal, totalOf, totalRefusal}
+use Rattle.tally.specs.Tally.{totalOf}
+use Rattle.picture.specs.Pixels.{FilledCanvasSays, noColour, meanOf, meanRefusal, totalRefusal}
 use Rattle.probe_picture.specs.declared.ProbedMean.{ProbedMean}
 use Rattle.probe_picture.specs.declared.ProbedTotal.{ProbedTotal}
 use Rattle.probe_picture.specs.declared.ProbedReach.{ProbedReach}

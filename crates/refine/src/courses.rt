@@ -9,7 +9,8 @@ ghost use lib.ListN.{length};
 ghost use lib.Seq.{slice};
 ghost use Rattle.float.specs.Within.{allWithin};
 ghost use Rattle.refusal.specs.Refusals.{Sized};
-ghost use Rattle.picture.specs.Pixels.{badColour, filled, totalOf};
+ghost use Rattle.tally.specs.Tally.{totalOf};
+ghost use Rattle.picture.specs.Pixels.{badColour, filled};
 ghost use Rattle.shapes.specs.declared.Shape.{Shape};
 ghost use Rattle.shapes.specs.Lists.{listed, shapeIn};
 ghost use Rattle.traces.specs.Refinement.{paintedOn};
@@ -52,7 +53,7 @@ fn sum_rows(w: usize, h: usize, target: &[f32], canvas: &[f32], sums: &mut [f64;
     sums[0] = sum;
     let mut y = 0;
     while y < h {
-        sum = picture::running::total_on(target, canvas, y * w * 3, w * 3, sum);
+        sum = tally::running::total_on(target, canvas, y * w * 3, w * 3, sum);
         sums[y + 1] = sum;
         y += 1;
     }

@@ -19,7 +19,8 @@ use Rattle.sums.specs.Sums.{noSums, plus, minus}
 use Rattle.grade.specs.declared.Score.{Score}
 use Rattle.grade.specs.Finalize.{finalized}
 use Rattle.gather.specs.Gathered.{pixelAt}
-use Rattle.picture.specs.Pixels.{filled, totalOf}
+use Rattle.tally.specs.Tally.{totalOf}
+use Rattle.picture.specs.Pixels.{filled}
 use Rattle.picture.specs.Painting.{painted}
 use Rattle.lines.specs.Hex.{malformed}
 use Rattle.frame.specs.Frames.{Request, new, row, score, paint}

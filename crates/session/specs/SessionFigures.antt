@@ -18,7 +18,7 @@ use Rattle.cover.specs.declared.Kind.the-variants.{Circle}
 use Rattle.cover.specs.Cover.{covered, badPlaces}
 use Rattle.sums.specs.Sums.{noSums, pixelSums, plus, minus}
 use Rattle.grade.specs.Finalize.{errorBefore, colourOf, errorAfter, colourAt, beforeAt, afterAt, wideChange, noScore, finalized}
-use Rattle.picture.specs.Pixels.{totalOf}
+use Rattle.tally.specs.Tally.{totalOf}
 use Rattle.picture.specs.Painting.{blended, painted}
 use Rattle.frame.specs.Frames.{new, row, score, paint}
 use Rattle.frame.specs.declared.Values.{Values}

@@ -23,7 +23,8 @@ use Rattle.grade.specs.declared.Scored.the-variants as scored
 use Rattle.grade.specs.Finalize.{finalized}
 use Rattle.grade.specs.Answered.{answered}
 use Rattle.gather.specs.Gathered.{spanSums}
-use Rattle.picture.specs.Pixels.{filled, totalOf}
+use Rattle.tally.specs.Tally.{totalOf}
+use Rattle.picture.specs.Pixels.{filled}
 use Rattle.picture.specs.Painting.{painted}
 use Rattle.lines.specs.Hex.{malformed}
 use Rattle.frame.specs.declared.Values.{Values}

@@ -5,7 +5,8 @@ use Prim.Native.Nat.{ℕ}
 use lib.Ieee.{Float}
 use lib.ListN.{getD}
 use Rattle.picture.specs.Painting.{painted}
-use Rattle.picture.specs.Pixels.{filled, totalOf}
+use Rattle.tally.specs.Tally.{totalOf}
+use Rattle.picture.specs.Pixels.{filled}
 use Rattle.shapes.specs.declared.Shape.{Shape}
 use Rattle.shapes.specs.declared.Candidates.{Candidates}
 use Rattle.shapes.specs.Lists.{offered}

@@ -11,8 +11,8 @@ use Rattle.laws.specs.Every.{every}
 use Rattle.float.specs.Within.{nought, allWithin}
 use Rattle.cover.specs.declared.reached.Rows.{Rows}
 use Rattle.cover.specs.ReachRows.{reachRows}
-use Rattle.picture.specs.Pixels.{totalOf}
-use Rattle.picture.specs.Rows.{totalOn}
+use Rattle.tally.specs.Tally.{totalOf}
+use Rattle.tally.specs.Rows.{totalOn}
 use Rattle.shapes.specs.declared.Shape.{Shape}
 use Rattle.shapes.specs.declared.Shapes.{Shapes}
 use Rattle.shapes.specs.declared.Candidate.{Candidate}

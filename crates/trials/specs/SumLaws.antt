@@ -16,9 +16,9 @@ use Rattle.laws.specs.F32.{_⊟_}
 use Rattle.laws.specs.StrokeLaws.{le-or-lt}
 use Rattle.float.specs.Within.{nought}
 use Rattle.cover.specs.declared.reached.Rows.{Rows}
-use Rattle.picture.specs.Pixels.{squaredDifference, totalOf}
-use Rattle.picture.specs.Rows.{totalOn}
-use Rattle.picture.specs.RowTotals.{on-none, on-both, on-all, on-same}
+use Rattle.tally.specs.Tally.{squaredDifference, totalOf}
+use Rattle.tally.specs.Rows.{totalOn}
+use Rattle.tally.specs.RowTotals.{on-none, on-both, on-all, on-same}
 use Rattle.picture.specs.Places.{painted-above, painted-below}
 use Rattle.shapes.specs.declared.Shape.{Shape}
 use Rattle.shapes.specs.declared.Shapes.{Shapes}

@@ -9,7 +9,7 @@ ghost use lib.Seq.{slice};
 ghost use Rattle.float.specs.Within.{allWithin};
 ghost use Rattle.refusal.specs.Refusals.{Sized};
 ghost use Rattle.cover.specs.ReachRows.{reachRows};
-ghost use Rattle.picture.specs.Rows.{totalOn};
+ghost use Rattle.tally.specs.Rows.{totalOn};
 ghost use Rattle.shapes.specs.declared.Shape.{Shape};
 ghost use Rattle.shapes.specs.Lists.{listed, shapeIn};
 ghost use Rattle.shapes.specs.Ranges.{fits};
@@ -107,7 +107,7 @@ fn try_row(
     let n = w * 3;
     copy(first, start, start + n, second);
     traces::paint_row(w, h, y, from, to, runs, paints, second);
-    picture::running::total_on(target, second, start, n, sum)
+    tally::running::total_on(target, second, start, n, sum)
 }
 
 // The sums of a trial's picture. Above row `top` they are those of the list, and below `bottom` the two pictures are the same again. So

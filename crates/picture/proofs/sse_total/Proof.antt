@@ -6,7 +6,8 @@ use Rattle.laws.specs.Answer.{answer}
 use Rattle.laws.specs.AnswerLaws.{answer-refused}
 use Rattle.float.specs.Within.{nought}
 use Rattle.refusal.specs.ThreeTests.{refused-first}
-use Rattle.picture.specs.Pixels.{totalOf, totalRefusal}
+use Rattle.tally.specs.Tally.{totalOf}
+use Rattle.picture.specs.Pixels.{totalRefusal}
 use Rattle.picture.specs.PixelLaws.{lengths-passed, pixels-last}
 use borrow.Author.Needs.{needs}
 use Rattle.picture.proofs.sse_total.Statement.{statement}

@@ -3,8 +3,8 @@ use mathlib.Core.Path.{_≡_, refl}
 use Prim.Native.Nat.{_-_, _≤_}
 use lib.ListN.{length}
 use lib.Ieee.{ofBits}
-use Rattle.picture.specs.Pixels.{totalTo}
-use Rattle.picture.specs.PixelLaws.{total-none, total-more, total-all}
+use Rattle.tally.specs.Tally.{totalTo}
+use Rattle.tally.specs.TallyLaws.{total-none, total-more, total-all}
 use borrow.Author.Needs.{needs}
 use native.Mathlib.Omega.{arith}
 use Rattle.picture.proofs.total_any.Statement.{statement}

@@ -8,7 +8,7 @@ use lib.Ieee.{Float, nan, ofBits}
 use lib.ListN.{length, getD, set, length-set}
 use lib.Seq.{slice}
 use Rattle.laws.specs.RowLaws.{row-le}
-use Rattle.picture.specs.RowTotals.{on-same}
+use Rattle.tally.specs.RowTotals.{on-same}
 use Rattle.traces.specs.DrawingLaws.{painted-on-same}
 use Rattle.trials.specs.CopyLaws.{row-ends, copied-within}
 use Rattle.picture.specs.PixelLaws.{few-pixels}

@@ -9,7 +9,7 @@ use lib.ListN.{length, getD, set, length-set}
 use lib.Seq.{slice}
 use Rattle.laws.specs.Bools.{true-is}
 use Rattle.float.specs.Within.{nought, allWithin}
-use Rattle.picture.specs.Rows.{totalOn}
+use Rattle.tally.specs.Rows.{totalOn}
 use Rattle.shapes.specs.declared.Shape.{Shape}
 use Rattle.traces.specs.Refinement.{paintedOn}
 use Rattle.traces.specs.Scenes.{shapePainted}

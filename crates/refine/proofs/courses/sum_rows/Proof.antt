@@ -9,8 +9,8 @@ use lib.ListN.{length, getD, set, length-set}
 use lib.Seq.{getD-set-same}
 use Rattle.laws.specs.RowLaws.{row-le}
 use Rattle.float.specs.Within.{nought}
-use Rattle.picture.specs.Rows.{totalOn}
-use Rattle.picture.specs.RowTotals.{on-none}
+use Rattle.tally.specs.Rows.{totalOn}
+use Rattle.tally.specs.RowTotals.{on-none}
 use Rattle.picture.specs.PixelLaws.{few-pixels}
 use Rattle.trials.specs.Courses.{SummedTo}
 use Rattle.trials.specs.SumLaws.{sums-none, row-sum, sums-more}

@@ -1,0 +1,6 @@
+-- What a reader must believe.
+pub mod Tally
+pub mod Rows
+-- What follows.
+pub mod TallyLaws
+pub mod RowTotals
