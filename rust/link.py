@@ -14,6 +14,10 @@ import sys
 ROOT = os.path.dirname(os.path.dirname(os.path.abspath(__file__)))
 TARGET = os.path.join(ROOT, "target")
 
+# The processor that the prover writes code for. What is made of our side takes the processor that it is made for, this one unless
+# another is named; for another our code is compiled from the same LLVM modules by bench/native-archive.
+OURS = "x86_64"
+
 
 def exporting():
     """The crates that export C functions: `capi`, the published face, and each `probe_NAME`, for tests alone."""
@@ -29,6 +33,19 @@ def die(text):
 def need(tool, why):
     if shutil.which(tool) is None:
         die(f"'{tool}' is missing: {why}")
+
+
+def here():
+    """The processor of this machine, by the name that compilers have for it."""
+    found = {"arm64": "aarch64"}.get(platform.machine(), platform.machine())
+    if found not in (OURS, "aarch64"):
+        die(f"this machine is {found}: the toolchain knows {OURS} and aarch64")
+    return found
+
+
+def runner(machine):
+    """The words that run a program made for a processor: none for this machine's, else those of the emulator."""
+    return [] if machine == here() else [f"qemu-{machine}"]
 
 
 def call(words, **more):
@@ -189,15 +206,15 @@ def module(crates, head, arm=False):
     )
 
 
-def bindings(path, native=False):
-    """Writes the Rust module `ours`, and answers the names in it. With native: over our modules compiled for this machine."""
+def bindings(path, machine=OURS):
+    """Writes the Rust module `ours` over our code for a processor, and answers the names in it."""
     head = (
         "// Made by rust/link.py from the sources of the exporting crates.\n"
         "#![allow(dead_code)]\n"
         "#![allow(unused_imports)]\n"
         "#![allow(clippy::too_many_arguments)]\n\n"
     )
-    write(path, module(exporting(), head, native and platform.machine() != "x86_64"))
+    write(path, module(exporting(), head, machine != OURS))
     return {e[0] for crate in exporting() for e in exports(crate)}
 
 
@@ -263,13 +280,16 @@ def made(archive, now):
         return False
 
 
-def archives(folder=None, only=None):
-    """Proves and archives the exporting crates, or one of them; answers the linker's words.
+def compiled(name, out, machine):
+    """Compiles the module of a proved crate for a processor."""
+    call(["sh", os.path.join(ROOT, "bench", "native-archive"), name, out, machine], cwd=ROOT)
 
-    With a folder: archives for this machine, compiled from the same modules (for times on Arm)."""
+
+def archives(machine=OURS, only=None):
+    """Proves and archives the exporting crates, or one of them, for a processor; answers the linker's words."""
     need("rt", "the Rattle toolchain proves and archives our side")
     words = []
-    where = folder or os.path.join(TARGET, "staticlib")
+    where = os.path.join(TARGET, "staticlib" if machine == OURS else machine)
     os.makedirs(where, exist_ok=True)
     for crate in exporting():
         if not exports(crate) or only not in (None, crate):
@@ -277,63 +297,56 @@ def archives(folder=None, only=None):
         archive = os.path.join(where, f"lib{crate}.a")
         now = digest(crate)
         if not made(archive, now):
-            how = ["rt", "check", crate] if folder else ["rt", "staticlib", crate]
+            how = ["rt", "staticlib" if machine == OURS else "check", crate]
             done = subprocess.run(how, cwd=ROOT, stdout=subprocess.PIPE, stderr=subprocess.STDOUT, text=True)
             if done.returncode != 0:
                 die(done.stdout + " ".join(how) + " failed")
-            if folder:
-                call(["sh", os.path.join(ROOT, "bench", "native-archive"), crate, archive], cwd=ROOT)
+            if machine != OURS:
+                compiled(crate, archive, machine)
             write(archive + ".of", now)
         words += ["-L", f"native={where}", "-l", f"static={crate}"]
     return words
 
 
-def program(name, native=False):
-    """Proves and builds a program of ours; answers the words that run it. With native: its module compiled for this machine."""
+def program(name, machine=OURS):
+    """Proves and builds a program of ours for a processor; answers the words that run it."""
     need("rt", "the Rattle toolchain proves and builds our programs")
     done = subprocess.run(["rt", "check", name], cwd=ROOT, stdout=subprocess.PIPE, stderr=subprocess.STDOUT, text=True)
     if done.returncode != 0:
         die(done.stdout + f"rt check {name} failed")
-    if native and platform.machine() != "x86_64":
-        out, now = os.path.join(TARGET, "native", name), digest(name)
+    out = os.path.join(TARGET, "bin" if machine == OURS else machine, name)
+    if machine != OURS:
+        now = digest(name)
         if not made(out, now):
             os.makedirs(os.path.dirname(out), exist_ok=True)
-            call(["sh", os.path.join(ROOT, "bench", "native-archive"), name, out], cwd=ROOT)
+            compiled(name, out, machine)
             write(out + ".of", now)
-        return [out]
-    runner = [] if platform.machine() == "x86_64" else ["qemu-x86_64"]
-    return [*runner, os.path.join(TARGET, "bin", name)]
+    return [*runner(machine), out]
 
 
 # ---- Rust
 
 
 class Rust:
-    """A compiler whose programs link x86-64 archives, and what runs them."""
+    """A compiler of programs for a processor, and what runs them."""
 
-    def __init__(self, native=False):
-        self.words, self.runner = [], []
-        machine = platform.machine()
-        if machine == "x86_64" or native:
-            self.rustc = os.environ.get("RUSTC", "rustc")
+    def __init__(self, machine=OURS):
+        self.words, self.runner = [], runner(machine)
+        if machine == here():
+            self.rustc, self.cc, self.out = os.environ.get("RUSTC", "rustc"), os.environ.get("CC", "cc"), "native"
             need(self.rustc, "a Rust compiler builds the oracle (or set RUSTC)")
             need("cc", "rustc links with it")
-            self.out = "native"
-        elif machine in ("aarch64", "arm64"):
-            # Debian's rustc-web has a library for x86-64; the machine's own rustc has none.
-            listed = subprocess.run(["dpkg", "-L", "rustc-web"], capture_output=True, text=True) if shutil.which("dpkg") else None
-            found = [l for l in listed.stdout.splitlines() if l.endswith("/bin/rustc")] if listed else []
-            self.rustc = os.environ.get("RUSTC") or (found[0] if found else None)
-            wanted = "dpkg --add-architecture amd64 && apt-get update && apt-get install -y --no-install-recommends rustc-web libstd-rust-web-dev:amd64 gcc-x86-64-linux-gnu libc6-dev-amd64-cross qemu-user"
-            if self.rustc is None:
-                die("our archives are for x86-64, and this machine is Arm: no rustc for x86-64 here. On Debian, as root, run rust/setup-arm, which does:\n  " + wanted)
-            need("x86_64-linux-gnu-gcc", "it links x86-64 programs. On Debian, as root:\n  " + wanted)
-            need("qemu-x86_64", "it runs x86-64 programs. On Debian, as root:\n  " + wanted)
-            self.words = ["--target", "x86_64-unknown-linux-gnu", "-C", "linker=x86_64-linux-gnu-gcc"]
-            self.runner = ["qemu-x86_64"]
-            self.out = "x86_64"
-        else:
-            die(f"this machine is {machine}: the toolchain knows x86_64 and aarch64")
+            return
+        # Debian's rustc-web can have a library for the other processor; the machine's own rustc has none.
+        listed = subprocess.run(["dpkg", "-L", "rustc-web"], capture_output=True, text=True) if shutil.which("dpkg") else None
+        found = [l for l in listed.stdout.splitlines() if l.endswith("/bin/rustc")] if listed else []
+        self.rustc, self.cc, self.out = os.environ.get("RUSTC") or (found[0] if found else None), f"{machine}-linux-gnu-gcc", machine
+        setup = "On Debian run rust/setup-cross, as root"
+        if self.rustc is None:
+            die(f"this machine is {here()}: no rustc for {machine} here (or set RUSTC). {setup}")
+        need(self.cc, f"it links {machine} programs. {setup}")
+        need(self.runner[0], f"it runs {machine} programs. {setup}")
+        self.words = ["--target", f"{machine}-unknown-linux-gnu", "-C", f"linker={self.cc}"]
 
     def oracle(self):
         """Builds the oracle; answers its folder, which has fast/ and checked/."""
