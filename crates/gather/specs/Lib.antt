@@ -2,8 +2,8 @@
 pub mod Gathered
 -- What the loops and their laws say.
 pub mod RunSums
-pub mod StampSums
 pub mod Paired
+pub mod StampSums
 pub mod RunSumLaws
 pub mod StampSumLaws
 pub mod CountLaws

@@ -1,4 +1,5 @@
 -- Rules: the sums that the loops over pixels carry, which hold the numbers of `ShapeSums` in another order.
+use mathlib.Core.Path.{_≡_}
 use Rattle.sums.specs.declared.ShapeSums.{ShapeSums}
 use Rattle.sums.specs.Sums.{three}
 use Rattle.gather.specs.declared.points.Paired.{Paired}
@@ -12,3 +13,6 @@ unpairedOf s = record {
   «s_tc» = three (s .tc0) (s .tc1) (s .tc2);
   count = s .count;
 }
+
+abbrev pub UnpairedSays : Paired → ShapeSums → Type 0
+UnpairedSays s r = r ≡ unpairedOf s

@@ -31,14 +31,20 @@ use Rattle.refusal.specs.Refusals.{Sized}
 use Rattle.gather.specs.RunSumLaws.{reached-rows, some-reached}
 use Rattle.gather.specs.Gathered.{pixelFrom, pixelAt, pointSums, spanSums}
 use Rattle.stamp.specs.RowLaws.{row-some, row-ends, row-none}
-use Rattle.gather.specs.StampSums.{stampPixel, stampPoints, StampIn, firstPlace, stampRow, stampSpans, RowIn, RowsIn, AddStampSays, StampSumsSays}
+use Rattle.gather.specs.StampSums.{stampPixel, stampPoints, StampIn, firstPlace, stampRow, stampSpans, RowIn, RowsIn, AddStampSays, PushStampSays}
+use Rattle.gather.specs.declared.points.Paired.{Paired}
+use Rattle.gather.specs.Paired.{unpairedOf, UnpairedSays}
 
 pub AddStampSays-unique : (w : ℕ) (table : List Float) (left top bits : ℕ) (r q : ShapeSums) → AddStampSays w table left top bits r → AddStampSays w table left top bits q → r ≡ q
 AddStampSays-unique w table left top bits r q f g = f ∙ sym g
 
-pub StampSumsSays-unique : (w : ℕ) (target canvas : List Float) (left top bits : ℕ) (r q : ShapeSums)
-    → StampSumsSays w target canvas left top bits r → StampSumsSays w target canvas left top bits q → r ≡ q
-StampSumsSays-unique w target canvas left top bits r q f g = f ∙ sym g
+-- the numbers of two answers are the same ones
+pub PushStampSays-unique : (w : ℕ) (target canvas : List Float) (left top bits : ℕ) (r q : Paired)
+    → PushStampSays w target canvas left top bits r → PushStampSays w target canvas left top bits q → unpairedOf r ≡ unpairedOf q
+PushStampSays-unique w target canvas left top bits r q f g = f ∙ sym g
+
+pub UnpairedSays-unique : (s : Paired) (r q : ShapeSums) → UnpairedSays s r → UnpairedSays s q → r ≡ q
+UnpairedSays-unique s r q f g = f ∙ sym g
 
 -- where a stamp begins
 pub corner-small : (left top w : ℕ) → left < 256 → top < 256 → w ≤ 256 → (top * w + left) * 3 ≤ 200000

@@ -10,6 +10,8 @@ use Rattle.sums.specs.Sums.{noSums, plus, minus}
 use Rattle.stamp.specs.Digits.{digitSteps, rowEnds, rowSteps}
 use Rattle.table.specs.Layout.{placeOf}
 use Rattle.gather.specs.Gathered.{pixelAt}
+use Rattle.gather.specs.declared.points.Paired.{Paired}
+use Rattle.gather.specs.Paired.{unpairedOf}
 
 -- pixel i of the eight rows of eight pixels from column left and row top on
 abbrev pub stampPixel : ℕ → List Float → List Float → ℕ → ℕ → ℕ → ShapeSums → ShapeSums
@@ -47,5 +49,6 @@ RowsIn w left y m n b = (b < 256 ^ n) × ((k : ℕ) → k < n → RowIn w left (
 abbrev pub AddStampSays : ℕ → List Float → ℕ → ℕ → ℕ → ShapeSums → Type 0
 AddStampSays w table left top bits r = r ≡ stampSpans w table left top 8 bits noSums
 
-abbrev pub StampSumsSays : ℕ → List Float → List Float → ℕ → ℕ → ℕ → ShapeSums → Type 0
-StampSumsSays w target canvas left top bits r = r ≡ stampPoints w target canvas left top bits noSums
+-- the numbers, whatever order they lie in
+abbrev pub PushStampSays : ℕ → List Float → List Float → ℕ → ℕ → ℕ → Paired → Type 0
+PushStampSays w target canvas left top bits r = unpairedOf r ≡ stampPoints w target canvas left top bits noSums

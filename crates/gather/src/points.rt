@@ -9,15 +9,15 @@ ghost use Rattle.cover.specs.Cover.{badPlaces};
 ghost use Rattle.sums.specs.Sums.{noSums, plus, pixelSums};
 ghost use Rattle.gather.specs.RunSums.{pixelsAdded, pointsAdded, RunsFit, NumbersIn, Reached};
 ghost use Rattle.stamp.specs.Digits.{withoutFirst};
-ghost use Rattle.gather.specs.StampSums.{stampPoints, StampIn, firstPlace, StampSumsSays};
+ghost use Rattle.gather.specs.StampSums.{stampPoints, StampIn, firstPlace, PushStampSays};
 ghost use Rattle.gather.specs.Gathered.{pixelFrom, PointSumsSays};
-ghost use Rattle.gather.specs.Paired.{unpairedOf};
+ghost use Rattle.gather.specs.Paired.{unpairedOf, UnpairedSays};
 use cover::Kind;
 use sums::ShapeSums;
 
 // The sums in the order that the compiler pairs well: it adds the first two channels of a pixel side by side in one register, and of the third
 // those that have a factor of the canvas, and the two pictures' own.
-struct Paired {
+pub struct Paired {
     t0: f64,
     t1: f64,
     c0: f64,
@@ -84,9 +84,10 @@ fn push_pair(s: Paired, tr: f64, tg: f64, tb: f64, cr: f64, cg: f64, cb: f64) ->
     }
 }
 
-// The same numbers, channel by channel.
-fn unpaired(s: Paired) -> ShapeSums
-    ensures { λ r. ⌜ r ≡ unpairedOf s ⌝ }
+// The same numbers, channel by channel. A call takes a stamp's sums so and hands them on: were they put together before, it would copy as a
+// block what was just written in parts.
+pub fn unpaired(s: Paired) -> ShapeSums
+    ensures { λ r. ⌜ UnpairedSays s r ⌝ }
 {
     let s_t = [s.t0, s.t1, s.t2];
     let s_c = [s.c0, s.c1, s.c2];
@@ -314,7 +315,7 @@ fn push_stamp_any(
 
 // The pixels of a stamp, in row order. Each is looked at until there is a NaN. The next one's place is worked out before the sums of this one,
 // which the processor has to wait for.
-fn push_stamp(
+pub fn push_stamp(
     bits: u64,
     left: usize,
     top: usize,
@@ -325,7 +326,7 @@ fn push_stamp(
     requires window { ⌜ (left < 256) × (top < 256) × (w ≤ 256) ⌝ }
     requires lent { ⌜ length (now canvas) ≡ length (now target) ⌝ }
     requires pixels { ⌜ StampIn w left top (length (now target)) bits ⌝ }
-    ensures { λ r. ⌜ unpairedOf r ≡ stampPoints w (now (target .entry)) (now (canvas .entry)) left top bits noSums ⌝ }
+    ensures { λ r. ⌜ PushStampSays w (now (target .entry)) (now (canvas .entry)) left top bits r ⌝ }
 {
     let corner = (top * w + left) * 3;
     let row = w * 3;
@@ -343,23 +344,6 @@ fn push_stamp(
         at = next;
     }
     s
-}
-
-// The sums over the pixels of a stamp.
-pub fn stamp_sums(
-    bits: u64,
-    left: usize,
-    top: usize,
-    target: &[f32],
-    canvas: &[f32],
-    w: usize,
-) -> ShapeSums
-    requires window { ⌜ (left < 256) × (top < 256) × (w ≤ 256) ⌝ }
-    requires lent { ⌜ length (now canvas) ≡ length (now target) ⌝ }
-    requires pixels { ⌜ StampIn w left top (length (now target)) bits ⌝ }
-    ensures { λ r. ⌜ StampSumsSays w (now (target .entry)) (now (canvas .entry)) left top bits r ⌝ }
-{
-    unpaired(push_stamp(bits, left, top, target, canvas, w))
 }
 
 // The sums of a shape over the rows of its reach, which are some.

@@ -155,7 +155,14 @@ pub fn circle_point_score(
         if (bottom - top <= 8) & (left < w) {
             let bits = cover::stamps::circle_stamp(cx, cy, r, left, top, w, h);
             if bits != 0 {
-                let few = gather::points::stamp_sums(bits, left, top, target, canvas, w);
+                let few = gather::points::unpaired(gather::points::push_stamp(
+                    bits,
+                    left,
+                    top,
+                    target,
+                    canvas,
+                    w,
+                ));
                 return done(grade::finalize(few, opacity));
             }
         }
@@ -203,7 +210,14 @@ pub fn triangle_point_score(
         if (bottom - top <= 8) & (left < w) {
             let bits = cover::stamps::triangle_stamp(x0, y0, x1, y1, x2, y2, left, top, w, h);
             if bits != 0 {
-                let few = gather::points::stamp_sums(bits, left, top, target, canvas, w);
+                let few = gather::points::unpaired(gather::points::push_stamp(
+                    bits,
+                    left,
+                    top,
+                    target,
+                    canvas,
+                    w,
+                ));
                 return done(grade::finalize(few, opacity));
             }
         }
@@ -320,7 +334,14 @@ pub fn collect_circle_sums(
         if (bottom - top <= 8) & (left < w) {
             let bits = cover::stamps::circle_stamp(cx, cy, r, left, top, w, h);
             if bits != 0 {
-                let few = gather::points::stamp_sums(bits, left, top, target, canvas, w);
+                let few = gather::points::unpaired(gather::points::push_stamp(
+                    bits,
+                    left,
+                    top,
+                    target,
+                    canvas,
+                    w,
+                ));
                 return Collected {
                     sums: few,
                     refused: 0,
@@ -363,7 +384,14 @@ pub fn collect_triangle_sums(
         if (bottom - top <= 8) & (left < w) {
             let bits = cover::stamps::triangle_stamp(x0, y0, x1, y1, x2, y2, left, top, w, h);
             if bits != 0 {
-                let few = gather::points::stamp_sums(bits, left, top, target, canvas, w);
+                let few = gather::points::unpaired(gather::points::push_stamp(
+                    bits,
+                    left,
+                    top,
+                    target,
+                    canvas,
+                    w,
+                ));
                 return Collected {
                     sums: few,
                     refused: 0,

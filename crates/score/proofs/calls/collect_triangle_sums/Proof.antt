@@ -51,15 +51,19 @@ sub-if3 c = omega (arith, c .before .if2 .left)
 triangle-stamp-requires : tie.Need-triangle-stamp-requires
 triangle-stamp-requires c κs = asked (c .before .before) .stamp _ (c .if3 .taken)
 
-stamp-sums-requires : tie.Need-stamp-sums-requires
-stamp-sums-requires c κs =
+push-stamp-requires : tie.Need-push-stamp-requires
+push-stamp-requires c κs =
     let s = c .before in
     let u = s .before in
     asked (u .before .before) .added _ _ (u .if3 .taken) (s .triangle-stamp .ensures (λ q. omega (arith, c .if4 .taken, q)))
 
+unpaired-requires : tie.Need-unpaired-requires
+unpaired-requires c κs = search needs
+
 returns-2 : tie.Need-returns-2
 returns-2 d =
-    let p = d .before in
+    let v = d .before in
+    let p = v .before in
     let s = p .before in
     let e = s .before .before .before in
     let t = e .before .before in
@@ -67,7 +71,7 @@ returns-2 d =
     let z = t .before .before .before .before in
     simp (toZ-ofZ, z .fits .x0, z .fits .y0, z .fits .x1, z .fits .y1, z .fits .x2, z .fits .y2) at (
     point-sums-told _ (a .w) (a .h) (a .target .now) (a .canvas .now) (t .before .usual-pictures .ensures (t .if1 .taken))
-    (d .stamp-sums .result) (d .stamp-sums .ensures ∙ stamp-is-points _ _ _ (a .w) (a .h) _ (s .triangle-stamp .ensures (λ q. omega (arith, p .if4 .taken, q))) (a .target .now) (a .canvas .now)))
+    (d .unpaired .result) (d .unpaired .ensures ∙ v .push-stamp .ensures ∙ stamp-is-points _ _ _ (a .w) (a .h) _ (s .triangle-stamp .ensures (λ q. omega (arith, p .if4 .taken, q))) (a .target .now) (a .canvas .now)))
 
 reached-sums-requires : tie.Need-reached-sums-requires
 reached-sums-requires c κs = asked (c .before .before) .reached
@@ -101,7 +105,8 @@ collect-triangle-sums-spec =
     first-column-requires
     sub-if3
     triangle-stamp-requires
-    stamp-sums-requires
+    push-stamp-requires
+    unpaired-requires
     returns-2
     reached-sums-requires
     returns-3

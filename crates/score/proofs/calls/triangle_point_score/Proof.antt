@@ -55,11 +55,14 @@ sub-if3 c = omega (arith, c .before .if2 .left)
 triangle-stamp-requires : tie.Need-triangle-stamp-requires
 triangle-stamp-requires c κs = asked (c .before .before) .stamp _ (c .if3 .taken)
 
-stamp-sums-requires : tie.Need-stamp-sums-requires
-stamp-sums-requires c κs =
+push-stamp-requires : tie.Need-push-stamp-requires
+push-stamp-requires c κs =
     let s = c .before in
     let u = s .before in
     asked (u .before .before) .added _ _ (u .if3 .taken) (s .triangle-stamp .ensures (λ q. omega (arith, c .if4 .taken, q)))
+
+unpaired-requires : tie.Need-unpaired-requires
+unpaired-requires c κs = search needs
 
 finalize-requires : tie.Need-finalize-requires
 finalize-requires c κs = search needs
@@ -71,7 +74,8 @@ returns-2 : tie.Need-returns-2
 returns-2 c =
     let m = c .before in
     let d = m .before in
-    let p = d .before in
+    let v = d .before in
+    let p = v .before in
     let s = p .before in
     let e = s .before .before .before in
     let t = e .before .before in
@@ -80,7 +84,7 @@ returns-2 c =
     let z = t .before .before .before .before .before .before in
     simp (toZ-ofZ, z .fits .x0, z .fits .y0, z .fits .x1, z .fits .y1, z .fits .x2, z .fits .y2) at (
     point-told _ (a .request) (n .asked .result) (a .levels .now) (a .w) (a .h) (n .asked .ensures) (a .target .now) (a .canvas .now) (t .before .usual-pictures .ensures (t .if1 .taken))
-    (d .stamp-sums .result) (m .finalize .result) (c .done .result) (d .stamp-sums .ensures ∙ stamp-is-points _ _ _ (a .w) (a .h) _ (s .triangle-stamp .ensures (λ q. omega (arith, p .if4 .taken, q))) (a .target .now) (a .canvas .now)) (m .finalize .ensures) (c .done .ensures))
+    (d .unpaired .result) (m .finalize .result) (c .done .result) (d .unpaired .ensures ∙ v .push-stamp .ensures ∙ stamp-is-points _ _ _ (a .w) (a .h) _ (s .triangle-stamp .ensures (λ q. omega (arith, p .if4 .taken, q))) (a .target .now) (a .canvas .now)) (m .finalize .ensures) (c .done .ensures))
 
 reached-sums-requires : tie.Need-reached-sums-requires
 reached-sums-requires c κs = asked (c .before .before) .reached
@@ -121,7 +125,8 @@ triangle-point-score-spec =
     first-column-requires
     sub-if3
     triangle-stamp-requires
-    stamp-sums-requires
+    push-stamp-requires
+    unpaired-requires
     finalize-requires
     done-requires
     returns-2
