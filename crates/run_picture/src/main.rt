@@ -110,6 +110,44 @@ fn means() {
     mean(2, 3, 20, 2.0);
 }
 
+// Pictures of more than the 16 pixels that are added at a time, number `at` another.
+fn long_mean_on(w: usize, h: usize, at: usize, x: f32, target: &mut [f32]) {
+    figures::slope(target, 0.01, 0.008);
+    put(target, at, x);
+    let m = probe_picture::probe_mean_rgb(w, h, target);
+    answered(m.number);
+    figures::number(m.red);
+    figures::number(m.green);
+    figures::number(m.blue);
+    show::text(b"\n");
+}
+
+fn long_mean(w: usize, h: usize, n: usize, at: usize, x: f32) {
+    let mut target = [0.0f32; 120];
+    show::text(b"mean ");
+    size(w, h, n);
+    show::text(b", number ");
+    show::unsigned(at as u64);
+    figures::number(x);
+    if n <= 120 {
+        long_mean_on(w, h, at, x, &mut target[0..n]);
+    }
+}
+
+fn long_means() {
+    long_mean(5, 3, 45, 0, 0.5);
+    long_mean(4, 4, 48, 0, 0.5);
+    long_mean(4, 4, 48, 47, 0.5);
+    long_mean(17, 1, 51, 24, 0.0625);
+    long_mean(8, 4, 96, 60, -0.0);
+    long_mean(3, 13, 117, 95, 1.0);
+    long_mean(1, 40, 120, 119, 0.25);
+    long_mean(4, 4, 48, 23, 1.5);
+    long_mean(4, 4, 48, 24, -0.5);
+    long_mean(8, 4, 96, 95, float::of_bits32(0x7fc0_0000));
+    long_mean(3, 13, 117, 116, 2.0);
+}
+
 // ---- total
 
 fn total_on(w: usize, h: usize, pt: f32, pc: f32, target: &mut [f32], canvas: &mut [f32]) {
@@ -265,6 +303,7 @@ fn circles() {
 fn main() {
     fills();
     means();
+    long_means();
     totals();
     total_any(0.7, 0.1);
     total_any(float::of_bits32(0x7fc0_0000), 0.1);
