@@ -7,7 +7,7 @@ use lib.Dec.{T}
 use lib.ListN.{length, getD}
 use lib.Ieee.{Float, nan}
 use Rattle.laws.specs.Rows.{cut}
-use Rattle.float.specs.Within.{number, allNumbers}
+use Rattle.float.specs.Within.{number, allNumbers, allWithin}
 use Rattle.rows.specs.Places.{rowOf}
 
 -- the sizes that the tests let pass
@@ -17,6 +17,10 @@ pub record Sizes (w h : ℕ) (target canvas table : List Float) : Type 0 where
   pub targets : length target ≡ h * (w * 3)
   pub canvases : length canvas ≡ h * (w * 3)
   pub places : length table ≡ h * ((w + 1) * 15)
+
+-- a build has tested both pictures
+abbrev pub Tested : Bool → List Float → List Float → Type 0
+Tested whole target canvas = whole ≡ true → T (allWithin target) × T (allWithin canvas)
 
 -- row y of the table from row y of the pictures: all fifteen sums, or the nine that read the canvas
 unfoldable pub rowAt : Bool → ℕ → List Float → List Float → ℕ → List Float → List Float

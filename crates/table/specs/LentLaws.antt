@@ -11,9 +11,10 @@ use lib.Ieee.{Float, nan, binary32, eq, sub}
 use borrow.Rule.Slice.PartMut.{putMid}
 use Rattle.laws.specs.Rows.{cut, putRow, putRows}
 use Rattle.laws.specs.Bools.{true-is, and-left, and-right}
-use Rattle.laws.specs.EveryLaws.{every-of}
+use Rattle.laws.specs.EveryLaws.{every-each, every-of}
 use Rattle.laws.specs.RowLaws.{part-cut, length-part, length-cut, getD-cut, put-row, putRows-more, row-in}
-use Rattle.float.specs.Within.{number, allNumbers}
+use Rattle.float.specs.Within.{within, number, allNumbers, allWithin}
+use Rattle.float.specs.WithinLaws.{within-number}
 use Rattle.float.specs.Numbers.{itself-number}
 use Rattle.float.specs.MarksLaws.{parts-numbers}
 use Rattle.rows.specs.Places.{RowSizes, rowOf}
@@ -55,6 +56,14 @@ numbers-more target canvas from k ok d e inv h i l m = go (leb k i) (leb→le k 
     go : (b : Bool) → (T b → k ≤ i) → (T (not b) → i < k) → T (number (getD target i nan)) × T (number (getD canvas i nan))
     go true f g = let p = f tt in let z : k ≡ i = omega arith in subst (λ (j : ℕ). T (number (getD target j nan)) × T (number (getD canvas j nan))) z here
     go false f g = inv (and-left ok (eq d d) h) i l (g tt)
+
+-- pictures within 0..1 have no NaN
+pub within-between : (from to : ℕ) (target canvas : List Float) → to ≤ length target → to ≤ length canvas → T (allWithin target) × T (allWithin canvas)
+    → NumbersBetween from to target canvas
+within-between from to target canvas a b w k m l = (here target a (w .0), here canvas b (w .1))
+  where
+    here : (xs : List Float) → to ≤ length xs → T (allWithin xs) → T (number (getD xs k nan))
+    here xs h p = within-number (getD xs k nan) (every-each within xs k nan p (omega arith))
 
 -- rows lo to hi lie within both pictures
 pub rows-within : (w h lo hi : ℕ) (target canvas table : List Float) → Sizes w h target canvas table → lo ≤ hi → hi ≤ h

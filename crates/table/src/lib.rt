@@ -12,7 +12,7 @@ ghost use Rattle.laws.specs.Rows.{cut, putRow, putRows};
 ghost use Rattle.refusal.specs.Refusals.{lowest, sizeIf, lengthIf, badSize};
 ghost use Rattle.sums.specs.Sums.{three};
 ghost use Rattle.table.specs.Table.{badLengths, BuildSays, UpdateCanvasRowsSays, AddSpanSays, ReadPlaceSays};
-ghost use Rattle.table.specs.Fills.{Sizes, NumbersBetween, RowNumbers, rowAt};
+ghost use Rattle.table.specs.Fills.{Sizes, Tested, NumbersBetween, RowNumbers, rowAt};
 use sums::ShapeSums;
 
 // The series' places among the fifteen.
@@ -166,6 +166,7 @@ fn rebuild_rows(
     whole: bool,
 )
     requires { ⌜ Sizes w h (now target) (now canvas) (now table) × (lo ≤ hi) × (hi ≤ h) ⌝ }
+    requires { ⌜ Tested whole (now target) (now canvas) ⌝ }
     ensures { λ _. ⌜ now (table .exit) ≡ putRows ((w + 1) * 15) (rowAt whole w (now (target .entry)) (now (canvas .entry))) lo hi (now (table .entry)) ⌝ }
 {
     let mut y = lo;
@@ -199,6 +200,7 @@ fn rebuild_some(
     whole: bool,
 )
     requires { ⌜ Sizes w h (now target) (now canvas) (now table) × (lo ≤ hi) × (hi ≤ h) ⌝ }
+    requires { ⌜ Tested whole (now target) (now canvas) ⌝ }
     ensures { λ _. ⌜ now (table .exit) ≡ putRows ((w + 1) * 15) (rowAt whole w (now (target .entry)) (now (canvas .entry))) lo hi (now (table .entry)) ⌝ }
 {
     let y = update_some(target, canvas, w, h, table, lo, hi, whole);
@@ -242,12 +244,32 @@ fn rebuild_rest(
     whole: bool,
 )
     requires { ⌜ Sizes w h (now target) (now canvas) (now table) × (lo ≤ hi) × (hi ≤ h) ⌝ }
+    requires { ⌜ Tested whole (now target) (now canvas) ⌝ }
     ensures { λ _. ⌜ now (table .exit) ≡ putRows ((w + 1) * 15) (rowAt whole w (now (target .entry)) (now (canvas .entry))) lo hi (now (table .entry)) ⌝ }
 {
-    let numbers = rows_numbers(target, canvas, w, lo, hi);
+    let numbers = known_numbers(target, canvas, w, lo, hi, whole);
     for y in lo..hi {
         rebuild_at(target, canvas, w, table, y, whole, numbers);
     }
+}
+
+// Rows lo to hi of both pictures have no NaN: those of a build, which were all tested, or by a look at them.
+fn known_numbers(
+    target: &[f32],
+    canvas: &[f32],
+    w: usize,
+    lo: usize,
+    hi: usize,
+    whole: bool,
+) -> bool
+    requires { ⌜ (w ≤ 256) × (lo ≤ hi) × (hi ≤ 256) × (hi * (w * 3) ≤ length (now target)) × (hi * (w * 3) ≤ length (now canvas)) ⌝ }
+    requires { ⌜ Tested whole (now target) (now canvas) ⌝ }
+    ensures { λ r. ⌜ (r ≡ true → NumbersBetween (lo * (w * 3)) (hi * (w * 3)) (now (target .entry)) (now (canvas .entry))) ⌝ }
+{
+    if !whole {
+        return rows_numbers(target, canvas, w, lo, hi);
+    }
+    true
 }
 
 // Rows lo to hi of both pictures have no NaN.

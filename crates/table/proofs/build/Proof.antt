@@ -2,6 +2,8 @@
 use native.Mathlib.Omega.{arith}
 use mathlib.Core.Path.{sym, _∙_, subst}
 use borrow.Author.Tests.{not-false}
+use Rattle.laws.specs.Bools.{true-is}
+use Rattle.float.specs.Within.{allWithin}
 use Rattle.table.specs.Table.{Table, updateRefusal}
 use Rattle.table.specs.FillLaws.{built}
 use Rattle.table.specs.TestLaws.{build-refused, bad-target, bad-canvas, build-pixel, build-done, sizes}
@@ -37,7 +39,9 @@ rebuild-rows-requires : tie.Need-rebuild-rows-requires
 unfolding updateRefusal
 rebuild-rows-requires c κs =
     let a = c .before .before .before .before .before .before .before .before .before .before .args in
-    (sizes (a .target .now) (a .canvas .now) (a .w) (a .h) (a .table .now) (sym (c .before .before .before .before .before .before .refused .ensures) ∙ c .before .before .before .before .before .if1 .left), omega arith, omega arith)
+    let good = sym (c .before .before .before .before .all-within .ensures) ∙ not-false _ (c .before .before .before .if2 .left) in
+    let kept = sym (c .before .before .all-within2 .ensures) ∙ not-false _ (c .before .if3 .left) in
+    ((sizes (a .target .now) (a .canvas .now) (a .w) (a .h) (a .table .now) (sym (c .before .before .before .before .before .before .refused .ensures) ∙ c .before .before .before .before .before .if1 .left), omega arith, omega arith), λ _. (true-is (allWithin (a .target .now)) good, true-is (allWithin (a .canvas .now)) kept))
 
 same-length : tie.Need-same-length
 same-length c = search needs

@@ -18,21 +18,21 @@ Inv-loop target canvas w h table₀ lo hi whole numbers y₀ table y =
 abbrev μ-loop : tie.MeasureT-loop
 μ-loop target canvas w h table₀ lo hi whole numbers y₀ table y = hi - y
 
-rows-numbers-requires : tie.Need-rows-numbers-requires Inv-loop μ-loop
-rows-numbers-requires c κs =
+known-numbers-requires : tie.Need-known-numbers-requires Inv-loop μ-loop
+known-numbers-requires c κs =
     let s = c .before .before .before in
-    rows-within (s .args .w) (s .args .h) (s .args .lo) (s .args .hi) _ _ _ (s .pre .0) (s .pre .1) (s .pre .2)
+    (rows-within (s .args .w) (s .args .h) (s .args .lo) (s .args .hi) _ _ _ (s .pre .0 .0) (s .pre .0 .1) (s .pre .0 .2), s .pre .1)
 
 loop-holds : tie.Need-loop-holds Inv-loop μ-loop
-loop-holds c = (omega arith, omega arith, sym (putRows-none _ _ _ _), c .before .before .before .before .pre .0 .places)
+loop-holds c = (omega arith, omega arith, sym (putRows-none _ _ _ _), c .before .before .before .before .pre .0 .0 .places)
 
 rebuild-at-requires : tie.Need-rebuild-at-requires Inv-loop μ-loop
 rebuild-at-requires c κs =
     let st = c .before .before .before .before .before .before .before in
     let a = st .args in
     let l = c .before .before .loop in (
-      row-within (a .whole) (a .w) (a .h) (a .target .now) (a .canvas .now) (a .lo) (l .y) (a .table .now) (l .table) (st .pre .0) (l .inv .3) (omega arith),
-      λ e. row-numbers (a .w * 3) (l .y) (a .lo) (a .hi) (a .h) (a .target .now) (a .canvas .now) (l .inv .0) (omega arith) (st .pre .2) (st .pre .0 .targets) (st .pre .0 .canvases) (c .before .before .before .rows-numbers .ensures e),
+      row-within (a .whole) (a .w) (a .h) (a .target .now) (a .canvas .now) (a .lo) (l .y) (a .table .now) (l .table) (st .pre .0 .0) (l .inv .3) (omega arith),
+      λ e. row-numbers (a .w * 3) (l .y) (a .lo) (a .hi) (a .h) (a .target .now) (a .canvas .now) (l .inv .0) (omega arith) (st .pre .0 .2) (st .pre .0 .0 .targets) (st .pre .0 .0 .canvases) (c .before .before .before .known-numbers .ensures e),
     )
 
 add-y : tie.Need-add-y Inv-loop μ-loop
@@ -66,7 +66,7 @@ rebuild-rest-spec =
     (tie.spec
     Inv-loop
     μ-loop
-    rows-numbers-requires
+    known-numbers-requires
     loop-holds
     rebuild-at-requires
     add-y

@@ -18,16 +18,17 @@ abbrev μ-loop : tie.MeasureT-loop
 μ-loop target canvas w h table₀ lo hi whole y₀ table y = hi - y
 
 loop-holds : tie.Need-loop-holds Inv-loop μ-loop
-loop-holds c = (omega arith, omega arith, sym (putRows-none _ _ _ _), c .before .before .before .pre .0 .places)
+loop-holds c = (omega arith, omega arith, sym (putRows-none _ _ _ _), c .before .before .before .pre .0 .0 .places)
 
 some-end-requires : tie.Need-some-end-requires Inv-loop μ-loop
-some-end-requires c κs = (omega arith, c .before .before .before .before .before .pre .0 .narrow)
+some-end-requires c κs = (omega arith, c .before .before .before .before .before .pre .0 .0 .narrow)
 
 rebuild-some-requires : tie.Need-rebuild-some-requires Inv-loop μ-loop
 rebuild-some-requires c κs =
     let p = c .before .before .before .before .before .before .before .pre in
     let e = c .before .some-end .ensures in
-    (record { narrow = p .0 .narrow; low = p .0 .low; targets = p .0 .targets; canvases = p .0 .canvases; places = c .before .before .before .loop .inv .3 }, omega (arith, e .0), omega (arith, e .1, p .2))
+    let s = p .0 .0 in
+    ((record { narrow = s .narrow; low = s .low; targets = s .targets; canvases = s .canvases; places = c .before .before .before .loop .inv .3 }, omega (arith, e .0), omega (arith, e .1, p .0 .2)), p .1)
 
 loop-less : tie.Need-loop-less Inv-loop μ-loop
 loop-less c = let e = c .before .before .before .before .some-end .ensures in omega (arith, e .0, e .1)

@@ -9,10 +9,10 @@ use Rattle.table.proofs.rebuild_some.Statement.{statement}
 use Rattle.table.proofs.rebuild_some.Tie as tie
 
 update-some-requires : tie.Need-update-some-requires
-update-some-requires c κs = search needs
+update-some-requires c κs = c .before .before .before .before .pre .0
 
 rebuild-rest-requires : tie.Need-rebuild-rest-requires
-rebuild-rest-requires c κs = search needs
+rebuild-rest-requires c κs = (search needs, c .before .before .before .before .before .before .before .before .pre .1)
 
 same-length : tie.Need-same-length
 same-length c = search needs

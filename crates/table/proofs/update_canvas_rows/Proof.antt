@@ -1,6 +1,7 @@
 -- `update_canvas_rows`: the two ends name the rows of the rule (`updated`).
 use mir.Facts.{toZ-ofZ}
-use mathlib.Core.Path.{sym, _∙_, subst}
+use mathlib.Core.Path.{refl, sym, _∙_, subst}
+use Rattle.laws.specs.Fit.{no-both}
 use Rattle.table.specs.Table.{Updated, updateRefusal}
 use Rattle.table.specs.FillLaws.{updated}
 use Rattle.table.specs.TestLaws.{update-refused, update-done, sizes}
@@ -26,7 +27,7 @@ rebuild-rows-requires : tie.Need-rebuild-rows-requires
 unfolding updateRefusal
 rebuild-rows-requires c κs =
     let a = c .before .before .before .before .before .before .before .before .args in
-    (sizes (a .target .now) (a .canvas .now) (a .w) (a .h) (a .table .now) (sym (c .before .before .before .before .refused .ensures) ∙ c .before .before .before .if1 .left), c .before .first-row .ensures .0, c .before .before .end-row .ensures .0)
+    ((sizes (a .target .now) (a .canvas .now) (a .w) (a .h) (a .table .now) (sym (c .before .before .before .before .refused .ensures) ∙ c .before .before .before .if1 .left), c .before .first-row .ensures .0, c .before .before .end-row .ensures .0), λ e. no-both e refl)
 
 same-length : tie.Need-same-length
 same-length c = search needs
