@@ -19,10 +19,9 @@ pub enum Summed {
     Beyond,
 }
 
-// The n pixels, 16 at a time: the next ones' tests are done while the additions, which may not be reordered, wait for each other. A part
-// is added in two halves, of which the compiler knows only that they have at most eight pixels: so it writes them out one by one, each
-// with red and green as a pair. If it knew all 16 it would put seven of blue's additions first, and red and green would wait for them; of
-// any number it would gather a channel's numbers from four pixels.
+// The n pixels, 16 at a time: the next ones' tests are done while the additions, which may not be reordered, wait for each other. The
+// compiler knows how many a part has, so that it adds red and green as a pair; of any number it would gather a channel's numbers from
+// four pixels, which costs more than it saves.
 pub fn sums_within(target: &[f32], n: usize) -> Summed
     requires { ⌜ length (now target) ≡ n * 3 ⌝ }
     ensures { λ r. ⌜ SumsWithinSays (now (target .entry)) n r ⌝ }
@@ -32,14 +31,12 @@ pub fn sums_within(target: &[f32], n: usize) -> Summed
         green: 0.0,
         blue: 0.0,
     };
-    let half = half_part(n);
     let mut i = 0;
     while 16 <= n - i {
         if !crate::parts::part_within(target, i * 3, (i + 16) * 3) {
             return Summed::Beyond;
         }
-        sums = add_pixels(sums, target, i, i + half);
-        sums = add_pixels(sums, target, i + half, i + half + half);
+        sums = add_pixels(sums, target, i, i + 16);
         i += 16;
     }
     if !crate::parts::part_within(target, i * 3, n * 3) {
@@ -47,16 +44,6 @@ pub fn sums_within(target: &[f32], n: usize) -> Summed
     }
     sums = add_pixels(sums, target, i, n);
     Summed::Of(sums)
-}
-
-// Half of the 16 pixels of a part, where there are as many.
-fn half_part(n: usize) -> usize
-    ensures { λ r. ⌜ (r ≤ 8) × (16 ≤ n → r ≡ 8) ⌝ }
-{
-    if n < 16 {
-        return n / 2;
-    }
-    8
 }
 
 // The sums go on from those of the pixels before `from`.
