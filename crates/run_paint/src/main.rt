@@ -18,6 +18,11 @@ fn changed(canvas: &[f32]) -> usize {
     n
 }
 
+fn labelled(label: &[u8], n: usize) {
+    show::text(label);
+    show::unsigned(n as u64);
+}
+
 fn verdict(table: &[f64], fresh: &[f64]) {
     if figures::differing(table, fresh) == 0 {
         show::text(b", the table as built afresh\n");
@@ -28,12 +33,17 @@ fn verdict(table: &[f64], fresh: &[f64]) {
 
 // ---- shapes on a picture of 4 columns and 3 rows
 
-fn row_shown(y: u64, row: &[f64]) {
+fn row_shown(y: usize, row: &[f64]) {
     let marks = [MARK; 75];
-    show::text(b" ");
-    show::unsigned(y);
-    show::text(b":");
-    show::unsigned(figures::differing(row, &marks) as u64);
+    labelled(b" ", y);
+    labelled(b":", figures::differing(row, &marks));
+}
+
+fn rows_shown(marked: &[f64; 225]) {
+    let m = &marked[..];
+    row_shown(0, &m[0..75]);
+    row_shown(1, &m[75..150]);
+    row_shown(2, &m[150..225]);
 }
 
 // The numbers written of a marked table, row by row.
@@ -54,18 +64,31 @@ fn rows_redone(target: &[f32; 36], kind: Kind, opacity: f32, red: f32, green: f3
         &mut marked,
     );
     show::text(b", written");
-    row_shown(0, &marked[0..75]);
-    row_shown(1, &marked[75..150]);
-    row_shown(2, &marked[150..225]);
+    rows_shown(&marked);
+}
+
+fn slopes(target: &mut [f32], canvas: &mut [f32]) {
+    figures::slope(target, 0.0, 0.02);
+    figures::slope(canvas, 0.9, -0.02);
+}
+
+fn named(name: &[u8], no: u8) {
+    show::text(name);
+    labelled(b": ", no as usize);
+}
+
+fn beside_fresh(target: &[f32], canvas: &[f32], places: &[f64]) {
+    let mut fresh = [0.0; 225];
+    table::build(target, canvas, 4, 3, &mut fresh);
+    verdict(places, &fresh);
+    figures::numbers(canvas, 12);
 }
 
 fn stroke(name: &[u8], kind: Kind, opacity: f32, red: f32, green: f32, blue: f32) {
     let mut target = [0.0f32; 36];
     let mut canvas = [0.0f32; 36];
-    figures::slope(&mut target, 0.0, 0.02);
-    figures::slope(&mut canvas, 0.9, -0.02);
+    slopes(&mut target, &mut canvas);
     let mut places = [0.0; 225];
-    let mut fresh = [0.0; 225];
     table::build(&target, &canvas, 4, 3, &mut places);
     let no = paint::paint(
         kind,
@@ -79,24 +102,17 @@ fn stroke(name: &[u8], kind: Kind, opacity: f32, red: f32, green: f32, blue: f32
         &mut canvas,
         &mut places,
     );
-    table::build(&target, &canvas, 4, 3, &mut fresh);
-    show::text(name);
-    show::text(b": ");
-    show::unsigned(no as u64);
+    named(name, no);
     rows_redone(&target, kind, opacity, red, green, blue);
-    verdict(&places, &fresh);
-    figures::numbers(&canvas, 12);
+    beside_fresh(&target, &canvas, &places);
 }
 
-fn strokes() {
-    stroke(
-        b"circle (1,1) r 1",
-        Kind::Circle(1, 1, 1),
-        0.5,
-        1.0,
-        0.25,
-        0.0,
-    );
+fn half_red(name: &[u8], kind: Kind) {
+    stroke(name, kind, 0.5, 1.0, 0.25, 0.0);
+}
+
+fn strokes_inside() {
+    half_red(b"circle (1,1) r 1", Kind::Circle(1, 1, 1));
     stroke(
         b"circle (0,0) r 1",
         Kind::Circle(0, 0, 1),
@@ -121,29 +137,21 @@ fn strokes() {
         0.6,
         0.9,
     );
+}
+
+fn strokes_of_nothing() {
     stroke(b"opacity -0", Kind::Circle(1, 1, 2), -0.0, 0.3, 0.6, 0.9);
-    stroke(b"radius 0", Kind::Circle(1, 1, 0), 0.5, 1.0, 0.25, 0.0);
-    stroke(b"radius -3", Kind::Circle(1, 1, -3), 0.5, 1.0, 0.25, 0.0);
-    stroke(
-        b"no area",
-        Kind::Triangle(0, 0, 1, 1, 2, 2),
-        0.5,
-        1.0,
-        0.25,
-        0.0,
-    );
-    stroke(b"above", Kind::Circle(1, -5, 2), 0.5, 1.0, 0.25, 0.0);
-    stroke(
-        b"just above",
-        Kind::Triangle(0, -1, 3, -1, 1, -4),
-        0.5,
-        1.0,
-        0.25,
-        0.0,
-    );
-    stroke(b"one row", Kind::Circle(1, -1, 1), 0.5, 1.0, 0.25, 0.0);
-    stroke(b"below", Kind::Circle(1, 9, 2), 0.5, 1.0, 0.25, 0.0);
-    stroke(b"beside", Kind::Circle(20, 1, 3), 0.5, 1.0, 0.25, 0.0);
+    half_red(b"radius 0", Kind::Circle(1, 1, 0));
+    half_red(b"radius -3", Kind::Circle(1, 1, -3));
+    half_red(b"no area", Kind::Triangle(0, 0, 1, 1, 2, 2));
+}
+
+fn strokes_past_an_edge() {
+    half_red(b"above", Kind::Circle(1, -5, 2));
+    half_red(b"just above", Kind::Triangle(0, -1, 3, -1, 1, -4));
+    half_red(b"one row", Kind::Circle(1, -1, 1));
+    half_red(b"below", Kind::Circle(1, 9, 2));
+    half_red(b"beside", Kind::Circle(20, 1, 3));
     stroke(
         b"farthest",
         Kind::Quad(-8191, -8191, 8191, -8191, 8191, 8191, -8191, 8191),
@@ -156,6 +164,18 @@ fn strokes() {
 
 // ---- refusals: circle (cx, 1) r 1, a colour's red, and what is lent
 
+fn counts(no: u8, canvas: usize, places: usize) {
+    labelled(b": ", no as usize);
+    labelled(b", changed ", canvas);
+    labelled(b" and ", places);
+    show::text(b"\n");
+}
+
+fn answer(no: u8, canvas: &[f32], places: &[f64]) {
+    let marks = [MARK; 240];
+    counts(no, changed(canvas), figures::differing(places, &marks));
+}
+
 fn lent(
     cx: i32,
     opacity: f32,
@@ -166,7 +186,6 @@ fn lent(
     canvas: &mut [f32],
     places: &mut [f64],
 ) {
-    let marks = [MARK; 240];
     let no = paint::paint(
         Kind::Circle(cx, 1, 1),
         opacity,
@@ -179,55 +198,73 @@ fn lent(
         canvas,
         places,
     );
-    show::text(b": ");
-    show::unsigned(no as u64);
-    show::text(b", changed ");
-    show::unsigned(changed(canvas) as u64);
-    show::text(b" and ");
-    show::unsigned(figures::differing(places, &marks) as u64);
-    show::text(b"\n");
+    answer(no, canvas, places);
 }
 
-fn asked(cx: i32, opacity: f32, red: f32, w: usize, h: usize, nt: usize, nc: usize, n: usize) {
+fn asked_stroke(cx: i32, opacity: f32, red: f32) {
     show::text(b"x ");
     show::signed32(cx);
     show::text(b", opacity");
     figures::number(opacity);
     show::text(b", red");
     figures::number(red);
-    show::text(b", ");
-    show::unsigned(w as u64);
-    show::text(b"x");
-    show::unsigned(h as u64);
-    show::text(b", lengths ");
-    show::unsigned(nt as u64);
-    show::text(b" ");
-    show::unsigned(nc as u64);
-    show::text(b" ");
-    show::unsigned(n as u64);
+}
+
+fn asked_sizes(w: usize, h: usize, nt: usize, nc: usize, n: usize) {
+    labelled(b", ", w);
+    labelled(b"x", h);
+    labelled(b", lengths ", nt);
+    labelled(b" ", nc);
+    labelled(b" ", n);
+}
+
+// So many numbers of each.
+fn lend(
+    cx: i32,
+    opacity: f32,
+    red: f32,
+    w: usize,
+    h: usize,
+    nt: usize,
+    nc: usize,
+    n: usize,
+    target: &[f32],
+    canvas: &mut [f32],
+    places: &mut [f64],
+) {
+    if nt <= target.len() && nc <= canvas.len() && n <= places.len() {
+        lent(
+            cx,
+            opacity,
+            red,
+            w,
+            h,
+            &target[0..nt],
+            &mut canvas[0..nc],
+            &mut places[0..n],
+        );
+    }
 }
 
 fn ask(cx: i32, opacity: f32, red: f32, w: usize, h: usize, nt: usize, nc: usize, n: usize) {
+    asked_stroke(cx, opacity, red);
+    asked_sizes(w, h, nt, nc, n);
     let target = [0.5f32; 40];
     let mut canvas = [PLAIN; 40];
     let mut places = [MARK; 240];
-    asked(cx, opacity, red, w, h, nt, nc, n);
-    if nt <= 40 {
-        if nc <= 40 {
-            if n <= 240 {
-                lent(
-                    cx,
-                    opacity,
-                    red,
-                    w,
-                    h,
-                    &target[0..nt],
-                    &mut canvas[0..nc],
-                    &mut places[0..n],
-                );
-            }
-        }
-    }
+    lend(
+        cx,
+        opacity,
+        red,
+        w,
+        h,
+        nt,
+        nc,
+        n,
+        &target,
+        &mut canvas,
+        &mut places,
+    );
 }
 
 fn one_wrong() {
@@ -285,11 +322,16 @@ fn circle(cx: i32, cy: i32, r: i32, opacity: f32, w: usize, h: usize) -> Call {
     }
 }
 
+fn both_answers(first: u8, second: u8, afresh: u8) {
+    labelled(b"two calls: ", first as usize);
+    labelled(b" ", second as usize);
+    labelled(b" ", afresh as usize);
+}
+
 fn both(first: Call, second: Call) {
     let mut target = [0.0f32; 36];
     let mut canvas = [0.0f32; 36];
-    figures::slope(&mut target, 0.0, 0.02);
-    figures::slope(&mut canvas, 0.9, -0.02);
+    slopes(&mut target, &mut canvas);
     let mut places = [0.0; 225];
     let mut fresh = [0.0; 225];
     let no = table::build(&target, &canvas, 4, 3, &mut places);
@@ -304,12 +346,7 @@ fn both(first: Call, second: Call) {
             &mut places,
             &mut fresh,
         );
-        show::text(b"two calls: ");
-        show::unsigned(n.first as u64);
-        show::text(b" ");
-        show::unsigned(n.second as u64);
-        show::text(b" ");
-        show::unsigned(n.afresh as u64);
+        both_answers(n.first, n.second, n.afresh);
         verdict(&places, &fresh);
     }
 }
@@ -322,7 +359,9 @@ fn pairs() {
 }
 
 fn main() {
-    strokes();
+    strokes_inside();
+    strokes_of_nothing();
+    strokes_past_an_edge();
     one_wrong();
     several_wrong();
     pairs();

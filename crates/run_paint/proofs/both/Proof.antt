@@ -5,17 +5,14 @@ use borrow.Author.Needs.{needs}
 use Rattle.run_paint.proofs.both.Statement.{statement}
 use Rattle.run_paint.proofs.both.Tie as tie
 
-slice-aggregate-slope : tie.Need-slice-aggregate-slope
-slice-aggregate-slope c = search needs
+slice-aggregate-slopes : tie.Need-slice-aggregate-slopes
+slice-aggregate-slopes c = search needs
 
-slope-requires : tie.Need-slope-requires
-slope-requires c κs = search needs
+slice-aggregate-slopes-2 : tie.Need-slice-aggregate-slopes-2
+slice-aggregate-slopes-2 c = search needs
 
-slice-aggregate-slope-2 : tie.Need-slice-aggregate-slope-2
-slice-aggregate-slope-2 c = search needs
-
-slope-requires-2 : tie.Need-slope-requires-2
-slope-requires-2 c κs = search needs
+slopes-requires : tie.Need-slopes-requires
+slopes-requires c κs = search needs
 
 slice-aggregate-build : tie.Need-slice-aggregate-build
 slice-aggregate-build c = search needs
@@ -47,41 +44,8 @@ two-calls-requires c κs =
     let k = answered-kept 4 3 _ _ _ _ _ (t .if1 .taken) (t .before .before .build .ensures) in
     (k, sym (k .built .size))
 
-slice-aggregate-text : tie.Need-slice-aggregate-text
-slice-aggregate-text c = search needs
-
-text-requires : tie.Need-text-requires
-text-requires c κs = search needs
-
-cast-unsigned : tie.Need-cast-unsigned
-cast-unsigned c = search needs
-
-unsigned-requires : tie.Need-unsigned-requires
-unsigned-requires c κs = search needs
-
-slice-aggregate-text-2 : tie.Need-slice-aggregate-text-2
-slice-aggregate-text-2 c = search needs
-
-text-requires-2 : tie.Need-text-requires-2
-text-requires-2 c κs = search needs
-
-cast-unsigned-2 : tie.Need-cast-unsigned-2
-cast-unsigned-2 c = search needs
-
-unsigned-requires-2 : tie.Need-unsigned-requires-2
-unsigned-requires-2 c κs = search needs
-
-slice-aggregate-text-3 : tie.Need-slice-aggregate-text-3
-slice-aggregate-text-3 c = search needs
-
-text-requires-3 : tie.Need-text-requires-3
-text-requires-3 c κs = search needs
-
-cast-unsigned-3 : tie.Need-cast-unsigned-3
-cast-unsigned-3 c = search needs
-
-unsigned-requires-3 : tie.Need-unsigned-requires-3
-unsigned-requires-3 c κs = search needs
+both-answers-requires : tie.Need-both-answers-requires
+both-answers-requires c κs = search needs
 
 slice-aggregate-verdict : tie.Need-slice-aggregate-verdict
 slice-aggregate-verdict c = search needs
@@ -102,10 +66,9 @@ pub both-spec : {M : Type 1} → statement M
 both-spec =
     tie.close
     (tie.spec
-    slice-aggregate-slope
-    slope-requires
-    slice-aggregate-slope-2
-    slope-requires-2
+    slice-aggregate-slopes
+    slice-aggregate-slopes-2
+    slopes-requires
     slice-aggregate-build
     slice-aggregate-build-2
     slice-aggregate-build-3
@@ -115,18 +78,7 @@ both-spec =
     slice-aggregate-two-calls-3
     slice-aggregate-two-calls-4
     two-calls-requires
-    slice-aggregate-text
-    text-requires
-    cast-unsigned
-    unsigned-requires
-    slice-aggregate-text-2
-    text-requires-2
-    cast-unsigned-2
-    unsigned-requires-2
-    slice-aggregate-text-3
-    text-requires-3
-    cast-unsigned-3
-    unsigned-requires-3
+    both-answers-requires
     slice-aggregate-verdict
     slice-aggregate-verdict-2
     verdict-requires
