@@ -59,6 +59,16 @@ fn byte(b: u8) {
     show::unsigned(b as u64);
 }
 
+fn refused(no: u8) {
+    show::text(b"refused");
+    byte(no);
+}
+
+fn refused_line(no: u8) {
+    refused(no);
+    show::text(b"\n");
+}
+
 fn new(w: u8, h: u8, r: u8, g: u8, b: u8) {
     show::text(b"new");
     byte(w);
@@ -69,20 +79,30 @@ fn new(w: u8, h: u8, r: u8, g: u8, b: u8) {
     show::text(b"\n");
 }
 
-// A row's pixels are written back as digits.
-fn row(y: u8, n: usize, bytes: [u8; 50]) {
+fn row_heading(y: u8, n: usize) {
     show::text(b"row");
     byte(y);
     show::text(b" of ");
     show::unsigned(n as u64);
-    show::text(b": ");
+}
+
+fn line_of(bytes: &[u8]) {
     let mut out = [0u8; 100];
+    let k = lines::write_line(bytes, &mut out);
+    if k <= out.len() {
+        show::text(&out[0..k]);
+    }
+}
+
+// A row's pixels are written back as digits.
+fn row_pixels(f: Frame, bytes: [u8; 50]) {
+    let Frame::Row(y, n) = f else {
+        return;
+    };
+    show::text(b": ");
     if n <= 48 {
         let e = n + 2;
-        let k = lines::write_line(&bytes[2..e], &mut out);
-        if k <= out.len() {
-            show::text(&out[0..k]);
-        }
+        line_of(&bytes[2..e]);
     }
 }
 
@@ -95,20 +115,22 @@ fn first_and_last(bytes: [u8; 50]) {
     show::text(b"\n");
 }
 
+// A row without its pixels, whose line goes on.
+fn what(f: Frame) {
+    match f {
+        Frame::New(w, h, r, g, b) => new(w, h, r, g, b),
+        Frame::Row(y, n) => row_heading(y, n),
+        Frame::Score(k, opacity) => shape(b"score", k, opacity),
+        Frame::Paint(k, opacity) => shape(b"paint", k, opacity),
+        Frame::Bad(no) => refused_line(no),
+    }
+}
+
 fn read(r: Read) {
     let f = r.frame;
     let bytes = r.bytes;
-    match f {
-        Frame::New(w, h, red, g, b) => new(w, h, red, g, b),
-        Frame::Row(y, n) => row(y, n, bytes),
-        Frame::Score(k, opacity) => shape(b"score", k, opacity),
-        Frame::Paint(k, opacity) => shape(b"paint", k, opacity),
-        Frame::Bad(no) => {
-            show::text(b"refused");
-            byte(no);
-            show::text(b"\n");
-        }
-    }
+    what(f);
+    row_pixels(f, bytes);
     first_and_last(bytes);
 }
 
@@ -177,23 +199,11 @@ fn run(input: &[u8]) {
 // Bytes without a line.
 fn bare(bytes: &[u8]) {
     let f = frame::decode(bytes);
-    match f {
-        Frame::New(w, h, red, g, b) => new(w, h, red, g, b),
-        Frame::Row(y, n) => {
-            show::text(b"row");
-            byte(y);
-            show::text(b" of ");
-            show::unsigned(n as u64);
-            show::text(b"\n");
-        }
-        Frame::Score(k, opacity) => shape(b"score", k, opacity),
-        Frame::Paint(k, opacity) => shape(b"paint", k, opacity),
-        Frame::Bad(no) => {
-            show::text(b"refused");
-            byte(no);
-            show::text(b"\n");
-        }
-    }
+    what(f);
+    let Frame::Row(y, n) = f else {
+        return;
+    };
+    show::text(b"\n");
 }
 
 fn bares() {
@@ -207,22 +217,23 @@ fn bares() {
     bare(&[2u8; 60]);
 }
 
+fn four(a: u8, b: u8, c: u8, d: u8) {
+    byte(a);
+    byte(b);
+    byte(c);
+    byte(d);
+    show::text(b"\n");
+}
+
 // Digits without a frame, into a buffer of four bytes.
 fn spelled(line: &[u8]) {
     let mut out = [42u8; 4];
     let d = lines::decode_hex(line, &mut out);
     match d {
         Digits::Bytes(n) => show::unsigned(n as u64),
-        Digits::Bad(no) => {
-            show::text(b"refused");
-            byte(no);
-        }
+        Digits::Bad(no) => refused(no),
     }
-    byte(out[0]);
-    byte(out[1]);
-    byte(out[2]);
-    byte(out[3]);
-    show::text(b"\n");
+    four(out[0], out[1], out[2], out[3]);
 }
 
 fn spellings() {
