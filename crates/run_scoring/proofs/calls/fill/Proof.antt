@@ -3,8 +3,8 @@ use Prim.Native.Nat.{_≤_, _-_}
 use mathlib.Core.Path.{_≡_}
 use lib.ListN.{length}
 use borrow.Author.Needs.{needs}
-use Rattle.run_scoring.proofs.fill.Statement.{statement}
-use Rattle.run_scoring.proofs.fill.Tie as tie
+use Rattle.run_scoring.proofs.calls.fill.Statement.{statement}
+use Rattle.run_scoring.proofs.calls.fill.Tie as tie
 
 abbrev Inv-loop : tie.InvT-loop
 Inv-loop xs₀ first x₀ i₀ i-end xs x i = (i ≤ i-end) × (i-end ≡ length xs₀) × (length xs ≡ length xs₀)
