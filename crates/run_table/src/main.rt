@@ -4,13 +4,16 @@ use sums::ShapeSums;
 // What stands in a table before a call, to count what it writes.
 const MARK: f64 = 7.0;
 
+fn labelled(label: &[u8], n: usize) {
+    show::text(label);
+    show::unsigned(n as u64);
+}
+
 // How many numbers of a marked table were written, beside the call's number.
 fn answer(no: u8, table: &[f64]) {
     let marks = [MARK; 150];
-    show::text(b": ");
-    show::unsigned(no as u64);
-    show::text(b", numbers written ");
-    show::unsigned(figures::differing(table, &marks) as u64);
+    labelled(b": ", no as usize);
+    labelled(b", numbers written ", figures::differing(table, &marks));
     show::text(b"\n");
 }
 
@@ -20,8 +23,7 @@ fn row_shown(y: usize, old: &[f64], new: &[f64], fresh: &[f64]) {
     if figures::differing(new, old) == 0 {
         return;
     }
-    show::text(b" ");
-    show::unsigned(y as u64);
+    labelled(b" ", y);
     if figures::differing(new, fresh) != 0 {
         show::text(b" (not as built)");
     }
@@ -36,27 +38,33 @@ fn rows_shown(old: &[f64; 135], new: &[f64; 135], fresh: &[f64; 135]) {
     row_shown(2, &a[90..135], &b[90..135], &c[90..135]);
 }
 
-fn update(ymin: i32, ymax: i32) {
-    let mut target = [0.0f32; 18];
-    let mut canvas = [0.0f32; 18];
-    let mut changed = [0.0f32; 18];
-    figures::slope(&mut target, 0.0, 0.05);
-    figures::slope(&mut canvas, 0.9, -0.04);
-    figures::slope(&mut changed, 0.1, 0.03);
-    let mut old = [0.0; 135];
-    let mut new = [0.0; 135];
-    let mut fresh = [0.0; 135];
-    table::build(&target, &canvas, 2, 3, &mut old);
-    table::build(&target, &canvas, 2, 3, &mut new);
-    table::build(&target, &changed, 2, 3, &mut fresh);
-    let no = table::update_canvas_rows(&target, &changed, 2, 3, &mut new, ymin, ymax);
+fn update_heading(ymin: i32, ymax: i32, no: u8) {
     show::text(b"update ");
     show::signed32(ymin);
     show::text(b" to ");
     show::signed32(ymax);
-    show::text(b": ");
-    show::unsigned(no as u64);
+    labelled(b": ", no as usize);
     show::text(b", redone");
+}
+
+fn slopes(target: &mut [f32], canvas: &mut [f32], changed: &mut [f32]) {
+    figures::slope(target, 0.0, 0.05);
+    figures::slope(canvas, 0.9, -0.04);
+    figures::slope(changed, 0.1, 0.03);
+}
+
+fn update(ymin: i32, ymax: i32) {
+    let mut target = [0.0f32; 18];
+    let mut canvas = [0.0f32; 18];
+    let mut changed = [0.0f32; 18];
+    slopes(&mut target, &mut canvas, &mut changed);
+    let mut old = [0.0; 135];
+    table::build(&target, &canvas, 2, 3, &mut old);
+    let mut new = old;
+    let no = table::update_canvas_rows(&target, &changed, 2, 3, &mut new, ymin, ymax);
+    let mut fresh = [0.0; 135];
+    table::build(&target, &changed, 2, 3, &mut fresh);
+    update_heading(ymin, ymax, no);
     rows_shown(&old, &new, &fresh);
     show::text(b"\n");
 }
@@ -74,20 +82,18 @@ fn updates() {
 
 // ---- refusals: pictures of nt and nc numbers, a table of n, and a pixel of the target and of the canvas
 
-fn asked(w: usize, h: usize, nt: usize, nc: usize, n: usize, pt: f32, pc: f32) {
+fn asked(w: usize, h: usize, nt: usize, nc: usize, n: usize) {
     show::unsigned(w as u64);
-    show::text(b"x");
-    show::unsigned(h as u64);
-    show::text(b", lengths ");
-    show::unsigned(nt as u64);
-    show::text(b" ");
-    show::unsigned(nc as u64);
-    show::text(b" ");
-    show::unsigned(n as u64);
-    show::text(b", pixels ");
-    show::hex(float::bits32(pt) as u64, 8);
-    show::text(b" ");
-    show::hex(float::bits32(pc) as u64, 8);
+    labelled(b"x", h);
+    labelled(b", lengths ", nt);
+    labelled(b" ", nc);
+    labelled(b" ", n);
+}
+
+fn asked_pixels(pt: f32, pc: f32) {
+    show::text(b", pixels");
+    figures::number(pt);
+    figures::number(pc);
 }
 
 fn call(update: bool, target: &[f32], canvas: &[f32], w: usize, h: usize, places: &mut [f64]) {
@@ -101,12 +107,13 @@ fn call(update: bool, target: &[f32], canvas: &[f32], w: usize, h: usize, places
 }
 
 fn ask(update: bool, w: usize, h: usize, nt: usize, nc: usize, n: usize, pt: f32, pc: f32) {
+    asked(w, h, nt, nc, n);
+    asked_pixels(pt, pc);
     let mut target = [0.5f32; 20];
     let mut canvas = [0.25f32; 20];
     let mut places = [MARK; 150];
     target[3] = pt;
     canvas[17] = pc;
-    asked(w, h, nt, nc, n, pt, pc);
     if nt <= 20 {
         if nc <= 20 {
             if n <= 150 {
@@ -187,6 +194,13 @@ fn refreshes() {
 
 // ---- the numbers themselves, of 1 row of 2 pixels
 
+fn span_heading(left: usize, right: usize, count: u32) {
+    labelled(b"span ", left);
+    labelled(b" to ", right);
+    labelled(b", ", count as usize);
+    show::text(b" pixels\n");
+}
+
 // Pixels left to right added to sums over five others.
 fn span(table: &[f64], left: usize, right: usize) {
     if table.len() != 45 {
@@ -207,14 +221,15 @@ fn span(table: &[f64], left: usize, right: usize) {
         count: 5,
     };
     let s = table::add_span(table, 2, 0, left, right, some);
-    show::text(b"span ");
-    show::unsigned(left as u64);
-    show::text(b" to ");
-    show::unsigned(right as u64);
-    show::text(b", ");
-    show::unsigned(s.count as u64);
-    show::text(b" pixels\n");
+    span_heading(left, right, s.count);
     figures::series(s);
+}
+
+fn three(p: &[f64]) {
+    if p.len() != 3 {
+        return;
+    }
+    figures::three([p[0], p[1], p[2]]);
 }
 
 // The fifteen sums of a place.
@@ -222,18 +237,20 @@ fn place(p: &[f64]) {
     if p.len() != 15 {
         return;
     }
-    figures::three([p[0], p[1], p[2]]);
-    figures::three([p[3], p[4], p[5]]);
-    figures::three([p[6], p[7], p[8]]);
-    figures::three([p[9], p[10], p[11]]);
-    figures::three([p[12], p[13], p[14]]);
+    three(&p[0..3]);
+    three(&p[3..6]);
+    three(&p[6..9]);
+    three(&p[9..12]);
+    three(&p[12..15]);
 }
 
-fn three_places(p: &[f64; 45]) {
-    let s = &p[..];
-    place(&s[0..15]);
-    place(&s[15..30]);
-    place(&s[30..45]);
+fn three_places(p: &[f64]) {
+    if p.len() != 45 {
+        return;
+    }
+    place(&p[0..15]);
+    place(&p[15..30]);
+    place(&p[30..45]);
 }
 
 fn small() {
@@ -259,9 +276,7 @@ fn tall() {
     let mut places = [7.0; 60];
     table::build(&target, &canvas, 1, 2, &mut places);
     show::text(b"built, 2 rows\n");
-    place(&places[0..15]);
-    place(&places[15..30]);
-    place(&places[30..45]);
+    three_places(&places[0..45]);
     place(&places[45..60]);
 }
 
