@@ -141,17 +141,19 @@ fn write_list(list: Shapes) {
     }
 }
 
-fn write_answer(r: Refined, first: &[f32], second: &[f32]) {
-    show::text(b": refusal");
-    number(r.refusal as usize);
-    show::text(b" passes");
-    number(r.passes);
-    show::text(b" trials");
-    number(r.trials);
-    show::text(b" accepted");
-    number(r.acceptances);
-    let list = r.shapes;
-    write_list(list);
+fn labelled(label: &[u8], n: usize) {
+    show::text(label);
+    number(n);
+}
+
+fn write_counts(refusal: u8, passes: usize, trials: usize, acceptances: usize) {
+    labelled(b": refusal", refusal as usize);
+    labelled(b" passes", passes);
+    labelled(b" trials", trials);
+    labelled(b" accepted", acceptances);
+}
+
+fn write_pictures(first: &[f32], second: &[f32]) {
     show::text(b" pictures ");
     show::hex(checksum(first), 8);
     show::text(b" ");
@@ -159,7 +161,31 @@ fn write_answer(r: Refined, first: &[f32], second: &[f32]) {
     show::text(b"\n");
 }
 
+fn write_answer(r: Refined, first: &[f32], second: &[f32]) {
+    write_counts(r.refusal, r.passes, r.trials, r.acceptances);
+    let list = r.shapes;
+    write_list(list);
+    write_pictures(first, second);
+}
+
 // ---- cases
+
+fn offers(seed: u64, m: usize) -> Candidates
+    requires { ⌜ seed < 1000 ⌝ }
+{
+    let nothing = Slot {
+        what: Candidate::Nothing,
+    };
+    let mut slots = [nothing; 1024];
+    let end = whole::min_usize(m, 1024);
+    let mut i = 0;
+    while i < end {
+        let what = offer(seed, i);
+        slots[i] = Slot { what };
+        i += 1;
+    }
+    Candidates { slots, count: m }
+}
 
 // A list of n shapes and m candidates over a target of noise.
 fn refined(
@@ -175,18 +201,7 @@ fn refined(
 ) -> Refined
     requires { ⌜ seed < 1000 ⌝ }
 {
-    let nothing = Slot {
-        what: Candidate::Nothing,
-    };
-    let mut slots = [nothing; 1024];
-    let end = whole::min_usize(m, 1024);
-    let mut i = 0;
-    while i < end {
-        let what = offer(seed, i);
-        slots[i] = Slot { what };
-        i += 1;
-    }
-    let candidates = Candidates { slots, count: m };
+    let candidates = offers(seed, m);
     let list = list_of(seed, n);
     let red = channel(seed, 1999, 0);
     let green = channel(seed, 1999, 1);
@@ -209,15 +224,11 @@ fn refined(
 fn heading(seed: u64, w: usize, h: usize, n: usize, m: usize, passes: usize) {
     show::text(b"seed ");
     show::unsigned(seed);
-    show::text(b" size");
-    number(w);
+    labelled(b" size", w);
     number(h);
-    show::text(b" shapes");
-    number(n);
-    show::text(b" offers");
-    number(m);
-    show::text(b" passes");
-    number(passes);
+    labelled(b" shapes", n);
+    labelled(b" offers", m);
+    labelled(b" passes", passes);
 }
 
 fn case(
@@ -269,25 +280,33 @@ fn circle(cx: i32, cy: i32, red: f32, green: f32, blue: f32) -> Shape {
     }
 }
 
+fn two_off_the_picture() -> Shapes {
+    let off = circle(9, 9, 0.0, 0.0, 0.0);
+    Shapes {
+        items: [off; 64],
+        count: 2,
+    }
+}
+
+fn one_offer(red: f32, green: f32, blue: f32) -> Candidates {
+    let right = circle(2, 0, red, green, blue);
+    let slot = Slot {
+        what: Candidate::Some(right),
+    };
+    Candidates {
+        slots: [slot; 1024],
+        count: 1,
+    }
+}
+
 // Two pixels. Nothing is drawn on them, and the candidate makes the second right, so that the old total is 1 + (r*r + g*g + b*b) / 2^52 and
 // the new one is 1. With 1540, 1180, 860 the two are 1e-9 apart, rounded: new + 1e-9 is old.
 fn edge(red: f32, green: f32, blue: f32) {
     let step = 67108864.0;
     show::text(b"edge");
     number(float::bits32(red) as usize);
-    let off = circle(9, 9, 0.0, 0.0, 0.0);
-    let list = Shapes {
-        items: [off; 64],
-        count: 2,
-    };
-    let right = circle(2, 0, red / step, green / step, blue / step);
-    let slot = Slot {
-        what: Candidate::Some(right),
-    };
-    let candidates = Candidates {
-        slots: [slot; 1024],
-        count: 1,
-    };
+    let list = two_off_the_picture();
+    let candidates = one_offer(red / step, green / step, blue / step);
     let target = [1.0f32, 0.0, 0.0, red / step, green / step, blue / step];
     let mut first = [0.5f32; 6];
     let mut second = [0.5f32; 6];
@@ -307,7 +326,7 @@ fn edge(red: f32, green: f32, blue: f32) {
     write_answer(r, &first, &second);
 }
 
-fn main() {
+fn runs() {
     // no pass, or fewer than two shapes
     run(1, 5, 4, 0, 4, 3);
     run(2, 5, 4, 1, 4, 3);
@@ -327,9 +346,17 @@ fn main() {
     run(13, 3, 2, 2, 1025, 16);
     run(14, 3, 2, 2, 4, 17);
     run(15, 0, 4, 65, 0, 0);
-    // at the margin, a little below and above it
+}
+
+// At the margin, a little below and above it.
+fn edges() {
     edge(1540.0, 1180.0, 860.0);
     edge(1541.0, 1180.0, 860.0);
     edge(1539.0, 1180.0, 860.0);
     edge(0.0, 0.0, 0.0);
+}
+
+fn main() {
+    runs();
+    edges();
 }
