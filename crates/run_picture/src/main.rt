@@ -7,17 +7,31 @@ fn put(xs: &mut [f32], i: usize, x: f32) {
     }
 }
 
-fn size(w: usize, h: usize, n: usize) {
-    show::unsigned(w as u64);
-    show::text(b"x");
-    show::unsigned(h as u64);
-    show::text(b", length ");
+fn labelled(label: &[u8], n: usize) {
+    show::text(label);
     show::unsigned(n as u64);
 }
 
+fn size(label: &[u8], w: usize, h: usize, n: usize) {
+    labelled(label, w);
+    labelled(b"x", h);
+    labelled(b", length ", n);
+}
+
+fn colour(red: f32, green: f32, blue: f32) {
+    figures::number(red);
+    figures::number(green);
+    figures::number(blue);
+}
+
 fn answered(no: u8) {
-    show::text(b": ");
-    show::unsigned(no as u64);
+    labelled(b": ", no as usize);
+}
+
+fn painted(no: u8, canvas: &[f32]) {
+    answered(no);
+    show::text(b"\n");
+    figures::numbers(canvas, 3);
 }
 
 // ---- fill
@@ -25,19 +39,14 @@ fn answered(no: u8) {
 fn fill_on(w: usize, h: usize, red: f32, green: f32, blue: f32, canvas: &mut [f32]) {
     figures::slope(canvas, 0.25, 0.03125);
     let no = picture::filled_canvas(w, h, red, green, blue, canvas);
-    answered(no);
-    show::text(b"\n");
-    figures::numbers(canvas, 3);
+    painted(no, canvas);
 }
 
 fn fill(w: usize, h: usize, n: usize, red: f32, green: f32, blue: f32) {
     let mut canvas = [0.0f32; 63];
-    show::text(b"fill ");
-    size(w, h, n);
+    size(b"fill ", w, h, n);
     show::text(b", colour");
-    figures::number(red);
-    figures::number(green);
-    figures::number(blue);
+    colour(red, green, blue);
     if n <= 63 {
         fill_on(w, h, red, green, blue, &mut canvas[0..n]);
     }
@@ -68,22 +77,23 @@ fn fills() {
 
 // ---- mean
 
+fn mean_shown(no: u8, red: f32, green: f32, blue: f32) {
+    answered(no);
+    colour(red, green, blue);
+    show::text(b"\n");
+}
+
 // Of a slope, with one number put in its place.
 fn mean_on(w: usize, h: usize, last: f32, target: &mut [f32]) {
     figures::slope(target, 0.01, 0.047);
     put(target, 17, last);
     let m = probe_picture::probe_mean_rgb(w, h, target);
-    answered(m.number);
-    figures::number(m.red);
-    figures::number(m.green);
-    figures::number(m.blue);
-    show::text(b"\n");
+    mean_shown(m.number, m.red, m.green, m.blue);
 }
 
 fn mean(w: usize, h: usize, n: usize, last: f32) {
     let mut target = [0.0f32; 20];
-    show::text(b"mean ");
-    size(w, h, n);
+    size(b"mean ", w, h, n);
     show::text(b", last");
     figures::number(last);
     if n <= 20 {
@@ -115,19 +125,13 @@ fn long_mean_on(w: usize, h: usize, at: usize, x: f32, target: &mut [f32]) {
     figures::slope(target, 0.01, 0.008);
     put(target, at, x);
     let m = probe_picture::probe_mean_rgb(w, h, target);
-    answered(m.number);
-    figures::number(m.red);
-    figures::number(m.green);
-    figures::number(m.blue);
-    show::text(b"\n");
+    mean_shown(m.number, m.red, m.green, m.blue);
 }
 
 fn long_mean(w: usize, h: usize, n: usize, at: usize, x: f32) {
     let mut target = [0.0f32; 120];
-    show::text(b"mean ");
-    size(w, h, n);
-    show::text(b", number ");
-    show::unsigned(at as u64);
+    size(b"mean ", w, h, n);
+    labelled(b", number ", at);
     figures::number(x);
     if n <= 120 {
         long_mean_on(w, h, at, x, &mut target[0..n]);
@@ -150,28 +154,34 @@ fn long_means() {
 
 // ---- total
 
+fn total_shown(no: u8, total: f64) {
+    answered(no);
+    show::text(b" ");
+    show::hex(float::bits64(total), 16);
+    show::text(b"\n");
+}
+
 fn total_on(w: usize, h: usize, pt: f32, pc: f32, target: &mut [f32], canvas: &mut [f32]) {
     figures::slope(target, 0.01, 0.047);
     figures::slope(canvas, 0.9, -0.043);
     put(target, 3, pt);
     put(canvas, 17, pc);
     let t = probe_picture::probe_sse_total(w, h, target, canvas);
-    answered(t.number);
-    show::text(b" ");
-    show::hex(float::bits64(t.total), 16);
-    show::text(b"\n");
+    total_shown(t.number, t.total);
+}
+
+fn total_asked(w: usize, h: usize, nt: usize, nc: usize, pt: f32, pc: f32) {
+    size(b"total ", w, h, nt);
+    labelled(b" ", nc);
+    show::text(b", pixels");
+    figures::number(pt);
+    figures::number(pc);
 }
 
 fn total(w: usize, h: usize, nt: usize, nc: usize, pt: f32, pc: f32) {
     let mut target = [0.0f32; 20];
     let mut canvas = [0.0f32; 20];
-    show::text(b"total ");
-    size(w, h, nt);
-    show::text(b" ");
-    show::unsigned(nc as u64);
-    show::text(b", pixels");
-    figures::number(pt);
-    figures::number(pc);
+    total_asked(w, h, nt, nc, pt, pc);
     if nt <= 20 {
         if nc <= 20 {
             total_on(w, h, pt, pc, &mut target[0..nt], &mut canvas[0..nc]);
@@ -187,10 +197,7 @@ fn long_total(last: f32) {
     show::text(b"total 8x8, the last pixel");
     figures::number(last);
     let t = probe_picture::probe_sse_total(8, 8, &target, &canvas);
-    answered(t.number);
-    show::text(b" ");
-    show::hex(float::bits64(t.total), 16);
-    show::text(b"\n");
+    total_shown(t.number, t.total);
 }
 
 fn totals() {
@@ -228,12 +235,6 @@ fn total_any(t: f32, c: f32) {
 
 // ---- painting
 
-fn painted(no: u8, canvas: &[f32]) {
-    answered(no);
-    show::text(b"\n");
-    figures::numbers(canvas, 3);
-}
-
 fn circle_on(w: usize, h: usize, cx: i32, cy: i32, r: i32, opacity: f32, canvas: &mut [f32]) {
     figures::slope(canvas, 0.0, 0.015625);
     let shape = [cx, cy, r];
@@ -241,18 +242,21 @@ fn circle_on(w: usize, h: usize, cx: i32, cy: i32, r: i32, opacity: f32, canvas:
     painted(no, canvas);
 }
 
-fn circle(w: usize, h: usize, n: usize, cx: i32, cy: i32, r: i32, opacity: f32) {
-    let mut canvas = [0.0f32; 64];
+fn circle_asked(cx: i32, cy: i32, r: i32) {
     show::text(b"circle ");
     show::signed32(cx);
     show::text(b" ");
     show::signed32(cy);
     show::text(b" ");
     show::signed32(r);
-    show::text(b" on ");
-    size(w, h, n);
+}
+
+fn circle(w: usize, h: usize, n: usize, cx: i32, cy: i32, r: i32, opacity: f32) {
+    circle_asked(cx, cy, r);
+    size(b" on ", w, h, n);
     show::text(b", opacity");
     figures::number(opacity);
+    let mut canvas = [0.0f32; 64];
     if n <= 64 {
         circle_on(w, h, cx, cy, r, opacity, &mut canvas[0..n]);
     }
