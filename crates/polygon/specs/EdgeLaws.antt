@@ -18,7 +18,7 @@ use Rattle.laws.specs.Bounds.{w-, w*, wle, weq, wpos}
 use Rattle.laws.specs.Fit.{no-both, lt-true, lt-false, of-abs}
 use Rattle.whole.specs.Whole.{ClampI64Says}
 use Rattle.whole.specs.WholeLaws.{clamp-is}
-use Rattle.polygon.specs.declared.Edge.{Edge}
+use Rattle.polygon.specs.declared.edges.Edge.{Edge}
 use Rattle.polygon.specs.Polygon.{Point, at, side}
 use Rattle.polygon.specs.Sides.{line, line-from}
 use Rattle.polygon.specs.Steps.{Kept, HalfPlane, Level, InnerOf, Cuts, turnOf, digitsOf}

@@ -10,7 +10,7 @@ use lib.IntN.{ℤ, pos, negsuc, _+ℤ_, _-ℤ_, _*ℤ_}
 use lib.Signed.{_≤ℤ_, _<ℤ_, ltZ}
 use Rattle.laws.specs.Bound.{Bounded}
 use Rattle.laws.specs.Ends.{endsOf, leftOf, rightOf}
-use Rattle.polygon.specs.declared.Edge.{Edge}
+use Rattle.polygon.specs.declared.edges.Edge.{Edge}
 use Rattle.polygon.specs.Polygon.{Point, at, side, area2, areaTest, corners, polygonPixel}
 
 -- a point within the coordinate range

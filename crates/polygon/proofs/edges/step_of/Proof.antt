@@ -5,8 +5,8 @@ use lib.IntN.{pos, _-ℤ_}
 use mir.Syntax.{w32}
 use mir.Facts.{toZ-ofZ}
 use Rattle.laws.specs.Bounds.{ld, lit, is-, fits-}
-use Rattle.polygon.proofs.step_of.Statement.{statement}
-use Rattle.polygon.proofs.step_of.Tie as tie
+use Rattle.polygon.proofs.edges.step_of.Statement.{statement}
+use Rattle.polygon.proofs.edges.step_of.Tie as tie
 
 sub-result : tie.Need-sub-result
 sub-result c = let s = c .before in fits- tt (lit (pos 0)) (ld (s .fits .s) (s .pre))

@@ -12,8 +12,8 @@ use Rattle.polygon.specs.Steps.{digitsOf}
 use Rattle.polygon.specs.EdgeLaws.{abs-some, digits-few, times-slim, cuts-half}
 use Rattle.laws.specs.Fit.{read}
 use Rattle.laws.specs.Bounds.{arg, ld}
-use Rattle.polygon.proofs.sloped_edge.Statement.{statement}
-use Rattle.polygon.proofs.sloped_edge.Tie as tie
+use Rattle.polygon.proofs.edges.sloped_edge.Statement.{statement}
+use Rattle.polygon.proofs.edges.sloped_edge.Tie as tie
 
 abs-i32-requires : tie.Need-abs-i32-requires
 abs-i32-requires c κs = search needs

@@ -6,8 +6,8 @@ use Rattle.laws.specs.Bounds.{Some, some, arg, ld, ldw, is-, is*, fits-, fits*}
 use mathlib.Core.Path.{sym, ap, _∙_}
 use Rattle.polygon.specs.Polygon.{at}
 use Rattle.polygon.specs.EdgeLaws.{cuts-sloped, cuts-along}
-use Rattle.polygon.proofs.edge_of.Statement.{statement}
-use Rattle.polygon.proofs.edge_of.Tie as tie
+use Rattle.polygon.proofs.edges.edge_of.Statement.{statement}
+use Rattle.polygon.proofs.edges.edge_of.Tie as tie
 
 -- the differences, by the winding
 abbrev dx : tie.Start → Some

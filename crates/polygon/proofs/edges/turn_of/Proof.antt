@@ -3,8 +3,8 @@ use lib.IntN.{pos}
 use mir.Facts.{toZ-ofZ}
 use Rattle.laws.specs.Fit.{lt-true, lt-false}
 use Rattle.polygon.specs.EdgeLaws.{turn-below, turn-above, turn-none}
-use Rattle.polygon.proofs.turn_of.Statement.{statement}
-use Rattle.polygon.proofs.turn_of.Tie as tie
+use Rattle.polygon.proofs.edges.turn_of.Statement.{statement}
+use Rattle.polygon.proofs.edges.turn_of.Tie as tie
 
 returns : tie.Need-returns
 returns c = let s = c .before in turn-below (s .args .s) (lt-true (s .args .s) (pos 0) (rw (toZ-ofZ, s .fits .s) at (c .if1 .taken)))

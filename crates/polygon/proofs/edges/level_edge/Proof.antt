@@ -6,8 +6,8 @@ use mir.Syntax.{w32}
 use mir.Facts.{toZ-ofZ}
 use Rattle.laws.specs.Bounds.{Some, some, ld, ldr, lit, is-, is*, fits-, fits*}
 use Rattle.polygon.specs.EdgeLaws.{turn-bounded, cuts-level}
-use Rattle.polygon.proofs.level_edge.Statement.{statement}
-use Rattle.polygon.proofs.level_edge.Tie as tie
+use Rattle.polygon.proofs.edges.level_edge.Statement.{statement}
+use Rattle.polygon.proofs.edges.level_edge.Tie as tie
 
 turn-of-requires : tie.Need-turn-of-requires
 turn-of-requires c κs = search needs

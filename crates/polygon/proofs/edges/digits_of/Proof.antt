@@ -3,8 +3,8 @@ use mathlib.Core.Path.{sym, ap}
 use mathlib.Core.Bool.{Bool, cond}
 use borrow.Author.Tests.{lt-ltb, le-ltb}
 use native.Mathlib.Omega.{arith}
-use Rattle.polygon.proofs.digits_of.Statement.{statement}
-use Rattle.polygon.proofs.digits_of.Tie as tie
+use Rattle.polygon.proofs.edges.digits_of.Statement.{statement}
+use Rattle.polygon.proofs.edges.digits_of.Tie as tie
 
 returns : tie.Need-returns
 returns c = sym (ap (λ (b : Bool). cond b 31 37) (lt-ltb (c .before .args .height) 64 (c .if1 .taken)))

@@ -7,8 +7,8 @@ use mir.Syntax.{w32}
 use mir.Facts.{toZ-ofZ}
 use Rattle.laws.specs.Rep.{v, k, _⊖_, rep-eq}
 use Rattle.laws.specs.Bounds.{Some, some, ld, lit, is-, fits-}
-use Rattle.polygon.proofs.start_of.Statement.{statement}
-use Rattle.polygon.proofs.start_of.Tie as tie
+use Rattle.polygon.proofs.edges.start_of.Statement.{statement}
+use Rattle.polygon.proofs.edges.start_of.Tie as tie
 
 abbrev gap : tie.Start → Some
 gap s = some (is- w32 tt (ld (s .fits .a) (s .pre .0)) (ld (s .fits .c) (s .pre .1)))

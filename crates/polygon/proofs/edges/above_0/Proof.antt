@@ -6,8 +6,8 @@ use mir.Facts.{toZ-ofZ, fits-natAbs}
 use Rattle.laws.specs.Fit.{lt-true, lt-false}
 use Rattle.laws.specs.Order.{<ℤ→≤ℤ}
 use Rattle.whole.specs.WholeLaws.{greater-high, greater-low}
-use Rattle.polygon.proofs.above_0.Statement.{statement}
-use Rattle.polygon.proofs.above_0.Tie as tie
+use Rattle.polygon.proofs.edges.above_0.Statement.{statement}
+use Rattle.polygon.proofs.edges.above_0.Tie as tie
 
 returns : tie.Need-returns
 returns c =

@@ -12,8 +12,8 @@ use Rattle.whole.specs.WholeLaws.{clamp-is}
 use Rattle.polygon.specs.Polygon.{at}
 use Rattle.polygon.specs.Steps.{Cuts, InnerOf}
 use Rattle.polygon.specs.EdgeLaws.{reciprocal, quotient-few, keeps-from, keeps-to}
-use Rattle.polygon.proofs.cut_row.Statement.{statement}
-use Rattle.polygon.proofs.cut_row.Tie as tie
+use Rattle.polygon.proofs.edges.cut_row.Statement.{statement}
+use Rattle.polygon.proofs.edges.cut_row.Tie as tie
 
 -- the edge's number in the row
 abbrev row : tie.Start → Some

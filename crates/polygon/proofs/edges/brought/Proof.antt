@@ -9,8 +9,8 @@ use mir.Facts.{toZ-ofZ}
 use Rattle.laws.specs.Parts.{zord}
 use Rattle.whole.specs.Whole.{lesser}
 use Rattle.whole.specs.WholeLaws.{lesser-low, lesser-high}
-use Rattle.polygon.proofs.brought.Statement.{statement}
-use Rattle.polygon.proofs.brought.Tie as tie
+use Rattle.polygon.proofs.edges.brought.Statement.{statement}
+use Rattle.polygon.proofs.edges.brought.Tie as tie
 
 above-0-requires : tie.Need-above-0-requires
 above-0-requires c κs = search needs
