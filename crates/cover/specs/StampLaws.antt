@@ -25,10 +25,10 @@ use Rattle.cover.specs.Cover.{covered, lowestRow, highestRow}
 use Rattle.cover.specs.CoverLaws.{covered-rows, covered-columns}
 use Rattle.cover.specs.ReachRows.{turned}
 use Rattle.cover.specs.StepLaws.{twice}
-use Rattle.cover.specs.Stamps.{Stamped, StampSays, FirstColumnSays, Among}
+use Rattle.cover.specs.Stamps.{Stamped, noStamp, StampSays, FirstColumnSays, Among}
 
--- two answers that are not 0 are equal; 0 is an answer for any shape, also one whose stamp is not
-pub StampSays-unique : (kind : Kind) (left top w h r s : ℕ) → StampSays kind left top w h r → StampSays kind left top w h s → (r ≡ 0 → ⊥) → (s ≡ 0 → ⊥) → r ≡ s
+-- two stamps that are known are equal; that none is known is an answer for any shape
+pub StampSays-unique : (kind : Kind) (left top w h r s : ℕ) → StampSays kind left top w h r → StampSays kind left top w h s → (r ≡ noStamp → ⊥) → (s ≡ noStamp → ⊥) → r ≡ s
 StampSays-unique kind left top w h r s f g a b = f a .is ∙ sym (g b .is)
 
 pub FirstColumnSays-unique : (kind : Kind) (w r s : ℕ) → FirstColumnSays kind w r → FirstColumnSays kind w s → r ≡ s

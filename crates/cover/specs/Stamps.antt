@@ -17,9 +17,12 @@ pub record Stamped (kind : Kind) (left top w h r : ℕ) : Type 0 where
   pub is : r ≡ stampOf (covered kind) left top
   pub window : InWindow (covered kind) left top w h
 
--- 0 where no stamp is known, or nothing is covered
+-- that no stamp is known; a shape that covers all 64 pixels has no other
+abbrev pub noStamp : ℕ
+noStamp = 0xffff_ffff_ffff_ffff
+
 abbrev pub StampSays : Kind → ℕ → ℕ → ℕ → ℕ → ℕ → Type 0
-StampSays kind left top w h r = (r ≡ 0 → ⊥) → Stamped kind left top w h r
+StampSays kind left top w h r = (r ≡ noStamp → ⊥) → Stamped kind left top w h r
 
 -- the first column of the reach is the first row of the turned shape's
 abbrev pub FirstColumnSays : Kind → ℕ → ℕ → Type 0

@@ -13,6 +13,9 @@ use crate::Kind;
 use crate::reached::rows_of;
 use crate::reached::turned;
 
+// No stamp is known. All 64 pixels would be the same number: such a shape goes by its runs.
+pub const NO_STAMP: u64 = 0xffff_ffff_ffff_ffff;
+
 // The first of the columns that a shape can reach.
 pub fn first_column(kind: Kind, w: usize) -> usize
     requires columns { ⌜ w ≤ 256 ⌝ }
@@ -53,7 +56,7 @@ pub fn circle_stamp(cx: i32, cy: i32, r: i32, left: usize, top: usize, w: usize,
     if (1 <= r) & (r <= 3) & begins(cx, r, left, w) & begins(cy, r, top, h) {
         return stamp::circle_stamp(r);
     }
-    0
+    NO_STAMP
 }
 
 // Four corners lie in the picture, among eight columns and eight rows.
@@ -138,7 +141,7 @@ pub fn triangle_stamp(
     if framed(x0, y0, x1, y1, x2, y2, x2, y2, left, top, w, h) {
         return framed_stamp(x0, y0, x1, y1, x2, y2, x2, y2, left, top, w, h);
     }
-    0
+    NO_STAMP
 }
 
 // A quad that lies in the picture.
@@ -164,10 +167,10 @@ fn quad_stamp(
     if framed(x0, y0, x1, y1, x2, y2, x3, y3, left, top, w, h) {
         return framed_stamp(x0, y0, x1, y1, x2, y2, x3, y3, left, top, w, h);
     }
-    0
+    NO_STAMP
 }
 
-// The covered pixels of eight rows of eight, from column left and row top on; 0 where they are not known.
+// The covered pixels of eight rows of eight, from column left and row top on, or NO_STAMP.
 pub fn stamp_of(kind: Kind, left: usize, top: usize, w: usize, h: usize) -> u64
     requires sizes { ⌜ Sized w h ⌝ }
     requires places { ⌜ badPlaces kind ≡ false ⌝ }

@@ -71,7 +71,7 @@ pub fn span_score(
         let left = cover::stamps::first_column(kind, w);
         if (bottom - top <= 8) & (left < w) {
             let bits = cover::stamps::stamp_of(kind, left, top, w, h);
-            if bits != 0 {
+            if bits != cover::stamps::NO_STAMP {
                 let few = gather::spans::add_stamp(bits, left, top, table, w);
                 return done(grade::finalize(few, opacity));
             }
@@ -154,7 +154,7 @@ pub fn circle_point_score(
         let left = cover::stamps::first_column(kind, w);
         if (bottom - top <= 8) & (left < w) {
             let bits = cover::stamps::circle_stamp(cx, cy, r, left, top, w, h);
-            if bits != 0 {
+            if bits != cover::stamps::NO_STAMP {
                 let few = gather::points::unpaired(gather::points::push_stamp(
                     bits,
                     left,
@@ -209,7 +209,7 @@ pub fn triangle_point_score(
         let left = cover::stamps::first_column(kind, w);
         if (bottom - top <= 8) & (left < w) {
             let bits = cover::stamps::triangle_stamp(x0, y0, x1, y1, x2, y2, left, top, w, h);
-            if bits != 0 {
+            if bits != cover::stamps::NO_STAMP {
                 let few = gather::points::unpaired(gather::points::push_stamp(
                     bits,
                     left,
@@ -264,7 +264,7 @@ pub fn collect_span_sums(kind: Kind, w: usize, h: usize, table: &[f64]) -> Colle
         let left = cover::stamps::first_column(kind, w);
         if (bottom - top <= 8) & (left < w) {
             let bits = cover::stamps::stamp_of(kind, left, top, w, h);
-            if bits != 0 {
+            if bits != cover::stamps::NO_STAMP {
                 let few = gather::spans::add_stamp(bits, left, top, table, w);
                 return Collected {
                     sums: few,
@@ -333,7 +333,7 @@ pub fn collect_circle_sums(
         let left = cover::stamps::first_column(kind, w);
         if (bottom - top <= 8) & (left < w) {
             let bits = cover::stamps::circle_stamp(cx, cy, r, left, top, w, h);
-            if bits != 0 {
+            if bits != cover::stamps::NO_STAMP {
                 let few = gather::points::unpaired(gather::points::push_stamp(
                     bits,
                     left,
@@ -383,7 +383,7 @@ pub fn collect_triangle_sums(
         let left = cover::stamps::first_column(kind, w);
         if (bottom - top <= 8) & (left < w) {
             let bits = cover::stamps::triangle_stamp(x0, y0, x1, y1, x2, y2, left, top, w, h);
-            if bits != 0 {
+            if bits != cover::stamps::NO_STAMP {
                 let few = gather::points::unpaired(gather::points::push_stamp(
                     bits,
                     left,

@@ -2,14 +2,15 @@
 use mathlib.Core.Path.{_≡_, refl, sym, _∙_, ap, ap₂, subst}
 use mathlib.Core.Bool.{Bool, true, false, _&&_}
 use mathlib.Core.List.{List, [], _∷_}
-use Prim.Native.Nat.{ℕ, zero, suc, _+_, _-_, _*_, _/_, _≤_, _<_}
+use Prim.Native.Nat.{ℕ, zero, suc, _+_, _-_, _*_, _/_, _%_, _^_, _≤_, _<_}
 use native.Mathlib.Omega.{arith}
 use lib.Bits.{bitAnd}
 use lib.IntN.{ℤ, pos, _+ℤ_, _-ℤ_, _*ℤ_, natAbs}
 use lib.ListN.{getD}
 use mir.Syntax.{w32}
-use mir.Val.{toZ, ofZ}
-use lib.Signed.{_≤ℤ_, leZ}
+use mir.Val.{SFits, toZ, ofZ}
+use mir.Facts.{toZ-ofZ}
+use lib.Signed.{_≤ℤ_, leZ, yes-nonNeg, pos-natAbs}
 use Rattle.laws.specs.Bound.{Bounded}
 use Rattle.laws.specs.Bounds.{w-, w*, wle, weq, rd}
 use Rattle.laws.specs.Parts.{zord, of+, of-, one-zero}
@@ -21,8 +22,8 @@ use Rattle.polygon.specs.Steps.{Signed}
 use Rattle.polygon.specs.Sides.{edge-sign, no-side}
 use Rattle.polygon.specs.OneRow.{four}
 use Rattle.stamp.specs.Stamp.{Eighth, InEights}
-use Rattle.stamp.specs.Lanes.{lanesOf, laneAt, InLanes, innerTest, Cornered}
-use Rattle.stamp.specs.LanesLaws.{lanes-agree, lanes-below, lanes-and, lanes-rise, lanes-fall, tops, lane-top, lanes-both, lanes-low}
+use Rattle.stamp.specs.Lanes.{lanesOf, laneAt, InLanes, offset, slope, edgeLanes, innerTest, Cornered}
+use Rattle.stamp.specs.LanesLaws.{lanes-agree, lanes-plus, lanes-same, wrapped, lanes-below, lanes-and, lanes-rise, lanes-fall, tops, lane-top, lanes-both, lanes-low}
 
 -- ---- eights
 pub eighth-bounded : {z : ℤ} → Eighth z → Bounded 7 z
@@ -58,6 +59,9 @@ in-eights {x0} {y0} {x1} {y1} {x2} {y2} {x3} {y3} a b d e = record { x = each (a
     each f g h k (suc (suc (suc (suc n)))) = eighth-row 0 (omega arith)
 
 -- ---- the bytes of a line keep their places
+pub above-0 : (z : ℤ) → Bounded 127 z → pos 0 ≤ℤ (pos 128 +ℤ z)
+above-0 z b = omega (arith, zord, b .within, of-abs z, of+ (pos 128) z)
+
 module _ {value slope : ℤ} (h : InLanes value slope) where
   pub lane-below : (k : ℕ) → k < 8 → laneAt value slope k < 256
   lane-below k l =
@@ -73,9 +77,6 @@ module _ {value slope : ℤ} (h : InLanes value slope) where
   pub last-near : Bounded 127 (value +ℤ pos 7 *ℤ slope)
   last-near = weq (ring (value ∷ slope ∷ []) (x 0 ⊞ c (pos 7) ⊠ x 1) (x 0 ⊞ x 1 ⊠ c (pos 7)) tt) (h .near 7 (omega arith))
 
-  above-0 : (z : ℤ) → Bounded 127 z → pos 0 ≤ℤ (pos 128 +ℤ z)
-  above-0 z b = omega (arith, zord, b .within, of-abs z, of+ (pos 128) z)
-
   pub first-above : pos 0 ≤ℤ (pos 128 +ℤ value)
   first-above = above-0 value first-near
 
@@ -84,13 +85,30 @@ module _ {value slope : ℤ} (h : InLanes value slope) where
       subst (λ (z : ℤ). pos 0 ≤ℤ z) (ring (value ∷ slope ∷ []) (c (pos 128) ⊞ (x 0 ⊞ c (pos 7) ⊠ x 1)) (c (pos 128) ⊞ x 0 ⊞ c (pos 7) ⊠ x 1) tt)
       (above-0 (value +ℤ pos 7 *ℤ slope) last-near)
 
+-- all bytes of a line moved by one number
+pub lanes-move : (value fall d : ℤ) → InLanes value fall → InLanes (value +ℤ d) fall → Bounded 127 d
+    → lanesOf (laneAt (value +ℤ d) fall) 8 + 0x8080_8080_8080_8080 ≡ lanesOf (laneAt value fall) 8 + natAbs (pos 128 +ℤ d) * 0x0101_0101_0101_0101
+lanes-move value fall d h l b =
+    ap (λ (n : ℕ). lanesOf (laneAt (value +ℤ d) fall) 8 + n) tops
+    ∙ sym (lanes-plus (laneAt (value +ℤ d) fall) (λ k. 128) 8)
+    ∙ lanes-agree (λ k. laneAt (value +ℤ d) fall k + 128) (λ k. laneAt value fall k + more) 8 each
+    ∙ lanes-plus (laneAt value fall) (λ k. more) 8
+    ∙ ap (λ (n : ℕ). lanesOf (laneAt value fall) 8 + n) (sym (lanes-same more))
+  where
+    more : ℕ
+    more = natAbs (pos 128 +ℤ d)
+
+    byte : (z : ℤ) → Bounded 127 z → pos (natAbs (pos 128 +ℤ z)) ≡ pos 128 +ℤ z
+    byte z n = pos-natAbs (pos 128 +ℤ z) (yes-nonNeg (above-0 z n))
+
+    each : (k : ℕ) → k < 8 → laneAt (value +ℤ d) fall k + 128 ≡ laneAt value fall k + more
+    each k m =
+        let y = fall *ℤ pos k in
+        ap natAbs (ap (λ (z : ℤ). z +ℤ pos 128) (byte ((value +ℤ d) +ℤ y) (l .near k (omega arith)))
+        ∙ ring (value ∷ d ∷ y ∷ []) (c (pos 128) ⊞ ((x 0 ⊞ x 1) ⊞ x 2) ⊞ c (pos 128)) ((c (pos 128) ⊞ (x 0 ⊞ x 2)) ⊞ (c (pos 128) ⊞ x 1)) tt
+        ∙ sym (ap₂ (λ (a b : ℤ). a +ℤ b) (byte (value +ℤ y) (h .near k (omega arith))) (byte d b)))
+
 -- ---- the line of an edge, from row 0 on
-abbrev pub offset : ℤ → Point → Point → ℤ → ℤ
-offset sign i j u = sign *ℤ ((j .px -ℤ i .px) *ℤ (pos 0 -ℤ i .py) -ℤ (j .py -ℤ i .py) *ℤ (u -ℤ i .px))
-
-abbrev pub slope : ℤ → Point → Point → ℤ
-slope sign i j = sign *ℤ (j .px -ℤ i .px)
-
 down : (sign : ℤ) (i j : Point) (u y : ℤ) → offset sign i j u +ℤ slope sign i j *ℤ y ≡ sign *ℤ side i j (at u y)
 down sign i j u y = ring (sign ∷ i .px ∷ i .py ∷ j .px ∷ j .py ∷ u ∷ y ∷ [])
     (x 0 ⊠ ((x 3 ⊟ x 1) ⊠ (c (pos 0) ⊟ x 2) ⊟ (x 4 ⊟ x 2) ⊠ (x 5 ⊟ x 1)) ⊞ (x 0 ⊠ (x 3 ⊟ x 1)) ⊠ x 6)
@@ -121,6 +139,33 @@ module _ {sign : ℤ} {i j : Point} {u : ℤ} (s : Bounded 1 sign) (from : Corne
       top k l =
           lane-top (offset sign i j u +ℤ slope sign i j *ℤ pos k) (edge-lanes .near k (omega arith))
           ∙ ap (λ (z : ℤ). 128 * bit (leZ (pos 0) z)) (down sign i j u (pos k))
+
+-- from a column to the one on its left
+module _ {sign : ℤ} {i j : Point} {u : ℤ} (s : Bounded 1 sign) (from : Cornered i) (to : Cornered j) (h : Eighth u) where
+  -- how much an edge's bytes grow by
+  pub rise-bounded : Bounded 127 (sign *ℤ (j .py -ℤ i .py))
+  rise-bounded = wle tt (w* s (eighth-apart (to .y) (from .y)))
+
+  left-eighth : pos 1 ≤ℤ u → Eighth (u -ℤ pos 1)
+  left-eighth l = record { low = omega (arith, zord, l, of- u (pos 1)); high = omega (arith, zord, h .high, of- u (pos 1)) }
+
+  pub edge-left : (less r : ℕ) → (less + 0x8080_8080_8080_8080) % 2 ^ 64 ≡ natAbs (pos 128 +ℤ sign *ℤ (j .py -ℤ i .py)) * 0x0101_0101_0101_0101
+      → r ≡ (edgeLanes sign i j u + less) % 2 ^ 64 → pos 1 ≤ℤ u → r ≡ edgeLanes sign i j (u -ℤ pos 1)
+  edge-left less r e f l =
+      let d = sign *ℤ (j .py -ℤ i .py) in
+      let back : offset sign i j (u -ℤ pos 1) ≡ offset sign i j u +ℤ d = ring (sign ∷ i .px ∷ i .py ∷ j .px ∷ j .py ∷ u ∷ [])
+      (x 0 ⊠ ((x 3 ⊟ x 1) ⊠ (c (pos 0) ⊟ x 2) ⊟ (x 4 ⊟ x 2) ⊠ ((x 5 ⊟ c (pos 1)) ⊟ x 1)))
+      (x 0 ⊠ ((x 3 ⊟ x 1) ⊠ (c (pos 0) ⊟ x 2) ⊟ (x 4 ⊟ x 2) ⊠ (x 5 ⊟ x 1)) ⊞ x 0 ⊠ (x 4 ⊟ x 2)) tt in
+      let k : InLanes (offset sign i j u +ℤ d) (slope sign i j) = subst (λ (z : ℤ). InLanes z (slope sign i j)) back (edge-lanes s from to (left-eighth l)) in
+      wrapped (edgeLanes sign i j u) (lanesOf (laneAt (offset sign i j u +ℤ d) (slope sign i j)) 8) _ less r
+      (lanes-move (offset sign i j u) (slope sign i j) d (edge-lanes s from to h) k rise-bounded) e f (lanes-fit k)
+      ∙ ap (λ (z : ℤ). lanesOf (laneAt z (slope sign i j)) 8) (sym back)
+
+-- as it is read from the locals
+pub edge-read : {n : ℕ} {sign xi yi xj yj u : ℤ} → SFits w32 xi → SFits w32 yi → SFits w32 xj → SFits w32 yj → SFits w32 sign → SFits w32 u
+    → n ≡ edgeLanes sign (at xi yi) (at xj yj) u
+    → n ≡ edgeLanes (toZ w32 (ofZ w32 sign)) (at (toZ w32 (ofZ w32 xi)) (toZ w32 (ofZ w32 yi))) (at (toZ w32 (ofZ w32 xj)) (toZ w32 (ofZ w32 yj))) (toZ w32 (ofZ w32 u))
+edge-read a b d e f g h = rw (toZ-ofZ a, toZ-ofZ b, toZ-ofZ d, toZ-ofZ e, toZ-ofZ f, toZ-ofZ g) h
 
 -- ---- the bytes of a line, from its least one on
 module _ (value slope : ℤ) (least step : ℕ) where

@@ -63,9 +63,18 @@ pub lanes-fall : (a b : ℕ) → a * 0x0101_0101_0101_0101 + b * 0x0001_0203_040
 unfolding lanesOf
 lanes-fall a b = omega arith
 
+pub lanes-same : (a : ℕ) → a * 0x0101_0101_0101_0101 ≡ lanesOf (λ k. a) 8
+unfolding lanesOf
+lanes-same a = omega arith
+
 pub tops : 0x8080_8080_8080_8080 ≡ lanesOf (λ k. 128) 8
 unfolding lanesOf
 tops = refl
+
+-- a sum and a difference that wrap, and end where no byte leaves its place
+pub wrapped : (a b more less r : ℕ) → b + 0x8080_8080_8080_8080 ≡ a + more → (less + 0x8080_8080_8080_8080) % 2 ^ 64 ≡ more → r ≡ (a + less) % 2 ^ 64
+    → b < 2 ^ 64 → r ≡ b
+wrapped a b more less r e f g l = omega (arith, e, f, g, l)
 
 -- ---- the top digit of a byte
 pub lane-top : (z : ℤ) → Bounded 127 z → bitAnd (natAbs (pos 128 +ℤ z)) 128 ≡ 128 * bit (leZ (pos 0) z)

@@ -1,3 +1,4 @@
 pub mod Whole
+pub mod Cut
 pub mod WholeLaws
 pub mod WholeFigures

@@ -23,12 +23,6 @@ moved c = let s = c .before in some (is* w32 tt (turn c .is) (ld (s .fits .yi) (
 mul-start : tie.Need-mul-start
 mul-start c = let s = c .before in fits* tt (turn c .is) (ld (s .fits .yi) (s .pre))
 
-sub-start : tie.Need-sub-start
-sub-start c = fits- tt (lit (pos 1)) (moved c .is)
-
-mul-start-2 : tie.Need-mul-start-2
-mul-start-2 c = fits* tt (is- w32 tt (lit (pos 1)) (moved c .is)) (lit (pos 257))
-
 mul-step : tie.Need-mul-step
 mul-step c = fits* tt (turn c .is) (lit (pos 257))
 
@@ -36,6 +30,12 @@ returns : tie.Need-returns
 returns c =
     let s = c .before in
     cuts-level (s .args .s) (s .args .yi) _ (s .pre) (is* w32 tt (is- w32 tt (lit (pos 1)) (moved c .is)) (lit (pos 257)) .is) (is* w32 tt (turn c .is) (lit (pos 257)) .is) refl refl refl refl
+
+sub-start : tie.Need-sub-start
+sub-start c = fits- tt (lit (pos 1)) (moved c .is)
+
+mul-start-2 : tie.Need-mul-start-2
+mul-start-2 c = fits* tt (is- w32 tt (lit (pos 1)) (moved c .is)) (lit (pos 257))
 
 pub level-edge-spec : {M : Type 1} → statement M
 level-edge-spec =

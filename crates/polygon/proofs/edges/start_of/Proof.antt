@@ -16,9 +16,6 @@ gap s = some (is- w32 tt (ld (s .fits .a) (s .pre .0)) (ld (s .fits .c) (s .pre 
 sub-g : tie.Need-sub-g
 sub-g s = fits- tt (ld (s .fits .a) (s .pre .0)) (ld (s .fits .c) (s .pre .1))
 
-sub-result : tie.Need-sub-result
-sub-result c = fits- tt (gap (c .before) .is) (lit (pos 1))
-
 returns : tie.Need-returns
 returns c =
     let s = c .before in
@@ -28,9 +25,6 @@ returns c =
     ∙ rep-eq ((v a ⊖ v o) ⊖ k 1) ((v a ⊖ k 1) ⊖ v o) (omega arith)
     ∙ sym (ap (λ (b : Bool). cond b (a -ℤ pos 1 -ℤ o) (o -ℤ a)) (rw (toZ-ofZ, s .fits .a) at (c .if1 .taken)))
 
-sub-result-2 : tie.Need-sub-result-2
-sub-result-2 c = fits- tt (lit (pos 0)) (gap (c .before) .is)
-
 returns-2 : tie.Need-returns-2
 returns-2 c =
     let s = c .before in
@@ -39,6 +33,12 @@ returns-2 c =
     is- w32 tt (lit (pos 0)) (gap s .is) .is
     ∙ rep-eq (k 0 ⊖ (v a ⊖ v o)) (v o ⊖ v a) (omega arith)
     ∙ sym (ap (λ (b : Bool). cond b (a -ℤ pos 1 -ℤ o) (o -ℤ a)) (rw (toZ-ofZ, s .fits .a) at (c .if1 .left)))
+
+sub-result : tie.Need-sub-result
+sub-result c = fits- tt (gap (c .before) .is) (lit (pos 1))
+
+sub-result-2 : tie.Need-sub-result-2
+sub-result-2 c = fits- tt (lit (pos 0)) (gap (c .before) .is)
 
 pub start-of-spec : {M : Type 1} → statement M
 start-of-spec =
