@@ -12,13 +12,14 @@ use mir.Val.{SFits, toZ, ofZ}
 use mir.Facts.{toZ-ofZ}
 use lib.Signed.{_≤ℤ_, leZ, yes-nonNeg, pos-natAbs}
 use Rattle.laws.specs.Bound.{Bounded}
-use Rattle.laws.specs.Bounds.{w-, w*, wle, weq, rd}
+use Rattle.laws.specs.Bounds.{w-, w*, wle, weq, rd, arg, ld}
 use Rattle.laws.specs.Parts.{zord, of+, of-, one-zero}
 use Rattle.laws.specs.Fit.{of-abs}
 use Rattle.laws.specs.Poly.{x, c, _⊞_, _⊟_, _⊠_, ring}
 use Rattle.laws.specs.Ends.{bit}
 use Rattle.polygon.specs.Polygon.{Point, at, side, area2, polygonTests, polygon, corners}
 use Rattle.polygon.specs.Steps.{Signed}
+use Rattle.polygon.specs.StepLaws.{sign-bounded}
 use Rattle.polygon.specs.Sides.{edge-sign, no-side}
 use Rattle.polygon.specs.OneRow.{four}
 use Rattle.stamp.specs.Stamp.{Eighth, InEights}
@@ -45,6 +46,19 @@ cornered-read h = record { x = eighth-read (h .x); y = eighth-read (h .y) }
 
 pub corner-read : (xs ys : List ℤ) → InEights xs ys → (i : ℕ) → Cornered (at (toZ w32 (ofZ w32 (getD xs i (pos 0)))) (toZ w32 (ofZ w32 (getD ys i (pos 0)))))
 corner-read xs ys h i = cornered-read (record { x = h .x i; y = h .y i })
+
+pub signed-bounded : {xs ys : List ℤ} {sign : ℤ} → Signed xs ys sign → Bounded 1 sign
+signed-bounded {xs} {ys} g = weq (g .is) (sign-bounded (area2 (corners xs ys)))
+
+-- what is asked of an edge from corner i to corner j, as it is read
+abbrev pub Asked : List ℤ → List ℤ → ℤ → ℤ → ℕ → ℕ → Type 0
+Asked xs ys sign u i j =
+    Cornered (at (toZ w32 (ofZ w32 (getD xs i (pos 0)))) (toZ w32 (ofZ w32 (getD ys i (pos 0)))))
+    × (Cornered (at (toZ w32 (ofZ w32 (getD xs j (pos 0)))) (toZ w32 (ofZ w32 (getD ys j (pos 0)))))
+    × (Bounded 1 (toZ w32 (ofZ w32 sign)) × Eighth (toZ w32 (ofZ w32 u))))
+
+pub edge-asked : (xs ys : List ℤ) {sign u : ℤ} → InEights xs ys → SFits w32 sign → Bounded 1 sign → Eighth u → (i j : ℕ) → Asked xs ys sign u i j
+edge-asked xs ys h f b e i j = (corner-read xs ys h i, (corner-read xs ys h j, (arg tt (ld f b), eighth-read e)))
 
 -- four corners, one by one
 pub in-eights : {x0 y0 x1 y1 x2 y2 x3 y3 : ℤ} → Cornered (at x0 y0) → Cornered (at x1 y1) → Cornered (at x2 y2) → Cornered (at x3 y3)
