@@ -8,11 +8,11 @@ use Rattle.float.proofs.bits64.Tie as tie
 returns : tie.Need-returns
 returns c = nan-bits binary64 (c .before .args .x) (itself-nan (c .before .args .x) (c .if1 .taken))
 
-float-to-bits-result : tie.Need-float-to-bits-result
-float-to-bits-result c = itself-no-nan (c .before .args .x) (c .if1 .left)
-
 returns-2 : tie.Need-returns-2
 returns-2 c = search needs
+
+float-to-bits-result : tie.Need-float-to-bits-result
+float-to-bits-result c = itself-no-nan (c .before .args .x) (c .if1 .left)
 
 pub bits64-spec : {M : Type 1} → statement M
 bits64-spec = tie.close (tie.spec returns float-to-bits-result returns-2)

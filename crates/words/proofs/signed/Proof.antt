@@ -20,13 +20,13 @@ sub-result c = search needs
 cast-result-2 : tie.Need-cast-result-2
 cast-result-2 c = search needs
 
-sub-result-2 : tie.Need-sub-result-2
-sub-result-2 c = less-fits w64 (18446744073709551615 - c .before .args .bits) (omega arith)
-
 returns-2 : tie.Need-returns-2
 returns-2 c =
     let b = c .before .args .bits in
     simp (le-ltb b 9223372036854775808 (c .if1 .left)) (less-read w64 (18446744073709551615 - b) (omega arith))
+
+sub-result-2 : tie.Need-sub-result-2
+sub-result-2 c = less-fits w64 (18446744073709551615 - c .before .args .bits) (omega arith)
 
 pub signed-spec : {M : Type 1} → statement M
 signed-spec = tie.close (tie.spec cast-result returns sub-result cast-result-2 sub-result-2 returns-2)

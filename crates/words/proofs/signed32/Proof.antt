@@ -23,13 +23,13 @@ sub-result c = search needs
 cast-result-2 : tie.Need-cast-result-2
 cast-result-2 c = search needs
 
-sub-result-2 : tie.Need-sub-result-2
-sub-result-2 c = less-fits w32 (18446744073709551615 - c .before .before .args .bits) (omega arith)
-
 returns-3 : tie.Need-returns-3
 returns-3 c =
     let b = c .before .before .args .bits in
     simp (le-ltb b 2147483648 (c .before .if1 .left), le-ltb b 18446744071562067968 (c .if2 .left)) (less-read w32 (18446744073709551615 - b) (omega arith))
+
+sub-result-2 : tie.Need-sub-result-2
+sub-result-2 c = less-fits w32 (18446744073709551615 - c .before .before .args .bits) (omega arith)
 
 pub signed32-spec : {M : Type 1} → statement M
 signed32-spec = tie.close (tie.spec cast-result returns returns-2 sub-result cast-result-2 sub-result-2 returns-3)
