@@ -1,5 +1,5 @@
 -- Laws: a pattern without the top bit, of a float that is at most 1, is of one within 0..1; lists of them; sums and differences that are numbers.
-use mathlib.Core.Path.{refl, sym, subst}
+use mathlib.Core.Path.{_≡_, refl, sym, _∙_, subst}
 use mathlib.Core.Bool.{Bool, true, false, _&&_, cond, Bool·beq}
 use mathlib.Core.List.{List}
 use Prim.Native.Nat.{ℕ, zero, suc, _+_, _-_, _*_, _/_, _%_, _^_, _<_}
@@ -17,7 +17,8 @@ use lib.Ieee.Fits.{and-i}
 use lib.Ieee.Order.{le-of-values}
 use Rattle.float.specs.Within.{nought, one, number, within, allWithin}
 use Rattle.laws.specs.EveryLaws.{every-step}
-use Rattle.float.specs.Numbers.{round-no-nan}
+use Rattle.laws.specs.Bools.{true-is}
+use Rattle.float.specs.Numbers.{itself-number, round-no-nan}
 
 -- ---- a pattern without the top bit, of a float that is at most 1
 pick : (P : Float → Type 0) (b : Bool) (x y : Float) → P x → P y → P (cond b x y)
@@ -83,6 +84,13 @@ sum-numbers f (inf s) (fin t n d) h = (tt, tt)
 sum-numbers f (fin s m e) nan h = absurd h
 sum-numbers f (fin s m e) (inf t) h = (tt, tt)
 sum-numbers f (fin s m e) (fin t n d) h = (tt, tt)
+
+-- three addends of a sum that equals itself
+pub addends : (f : Format) (x y z : Float) → eq (add f (add f x y) z) (add f (add f x y) z) ≡ true → T (number x) × T (number y) × T (number z)
+addends f x y z e =
+    let p = sum-numbers f (add f x y) z (true-is (number (add f (add f x y) z)) (sym (itself-number (add f (add f x y) z)) ∙ e)) in
+    let q = sum-numbers f x y (p .0) in
+    (q .0, q .1, p .1)
 
 negated-number : (y : Float) → T (number (neg y)) → T (number y)
 unfolding neg isNan

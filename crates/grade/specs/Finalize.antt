@@ -25,9 +25,13 @@ rest a = sub binary32 one a
 unfoldable pub errorBefore : Float → Float → Float → Float
 errorBefore t2 tc c2 = t2 ⊖ two ⊗ tc ⊕ c2
 
+-- a channel's colour before it is held to 0..1
+abbrev pub wantedOf : Float → Float → Float → Float → Float
+wantedOf t c m denom = (t ⊖ m ⊗ c) ⊘ denom
+
 -- a channel's colour: p = (t - m·c)/denom if denom > 0, else 0; below 0 becomes 0, above 1 becomes 1; narrowed
 unfoldable pub colourOf : Float → Float → Float → Float → Float
-colourOf t c m denom = narrowed (clamped (cond (lt nought denom) ((t ⊖ m ⊗ c) ⊘ denom) nought))
+colourOf t c m denom = narrowed (clamped (cond (lt nought denom) (wantedOf t c m denom) nought))
 
 -- a channel's error with the colour p drawn over it
 unfoldable pub errorAfter : Float → Float → Float → Float → Float → Float → Float → Float → Float → Float
@@ -44,6 +48,9 @@ countOf s = ofInt binary64 (pos (s .count))
 -- the colour of a channel, at the opacity a
 unfoldable pub colourAt : ShapeSums → Float → ℕ → Float
 colourAt s a ch = colourOf (channel (s .«s_t») ch) (channel (s .«s_c») ch) (rest a) (a ⊗ countOf s)
+
+abbrev pub wantedAt : ShapeSums → ℕ → Float → Float → Float
+wantedAt s ch m denom = wantedOf (channel (s .«s_t») ch) (channel (s .«s_c») ch) m denom
 
 unfoldable pub beforeAt : ShapeSums → ℕ → Float
 beforeAt s ch = errorBefore (channel (s .«s_t2») ch) (channel (s .«s_tc») ch) (channel (s .«s_c2») ch)

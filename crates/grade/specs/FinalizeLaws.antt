@@ -2,14 +2,18 @@
 use mathlib.Core.Path.{_≡_, sym, _∙_}
 use Prim.Native.Nat.{ℕ}
 use borrow.Author.Tests.{eq-eqb, ne-eqb}
-use lib.Ieee.{Float}
+use mathlib.Core.Bool.{Bool, true, false, cond}
+use lib.Dec.{T}
+use lib.Ieee.{Float, isNan, lt}
 use Rattle.laws.specs.F64.{_⊕_, _⊖_, _⊗_}
-use Rattle.float.specs.Within.{nought}
+use Rattle.float.specs.Within.{nought, one, number}
+use Rattle.float.specs.Clamped.{clamped}
+use Rattle.float.specs.NarrowLaws.{narrowed-no-nan}
 use Rattle.float.specs.Narrowed.{narrowed}
 use Rattle.sums.specs.Sums.{channel}
 use Rattle.sums.specs.declared.ShapeSums.{ShapeSums}
 use Rattle.grade.specs.declared.Score.{Score}
-use Rattle.grade.specs.Finalize.{rest, overChannels, countOf, colourOf, errorAfter, colourAt, beforeAt, afterAt, wideChange, noScore, finalized, NoScoreSays, FinalizeSays}
+use Rattle.grade.specs.Finalize.{rest, overChannels, countOf, wantedOf, colourOf, errorAfter, colourAt, wantedAt, beforeAt, afterAt, wideChange, noScore, finalized, NoScoreSays, FinalizeSays}
 
 pub FinalizeSays-unique : (s : ShapeSums) (a : Float) (r q : Score) → FinalizeSays s a r → FinalizeSays s a q → r ≡ q
 FinalizeSays-unique s a r q f g = f ∙ sym g
@@ -17,12 +21,33 @@ FinalizeSays-unique s a r q f g = f ∙ sym g
 pub NoScoreSays-unique : (a : Float) (n : ℕ) (r q : Score) → NoScoreSays a n r → NoScoreSays a n q → r ≡ q
 NoScoreSays-unique a n r q f g = f ∙ sym g
 
+-- the colour of a number is a number
+clamped-number : (q : Float) → T (number q) → T (number (clamped q))
+unfolding clamped isNan
+clamped-number q h = by (lt q nought) (lt one q)
+  where
+    by : (a b : Bool) → T (number (cond a nought (cond b one q)))
+    by true b = tt
+    by false true = tt
+    by false false = h
+
+pub known-number : (q : Float) → T (number q) → T (number (narrowed (clamped q)))
+known-number q h = narrowed-no-nan (clamped q) (clamped-number q h)
+
 -- the code's steps, over plain numbers
 module _ (s : ShapeSums) (a m n : Float) (hm : m ≡ rest a) (hn : n ≡ countOf s) where
   pub colour-step : (p : Float) (ch : ℕ) → p ≡ colourOf (channel (s .«s_t») ch) (channel (s .«s_c») ch) m (a ⊗ n)
       → p ≡ colourAt s a ch
   unfolding colourAt
   colour-step p ch h = simp (h, hm, hn)
+
+  -- where denom is above 0
+  positive : (t c denom : Float) → lt nought denom ≡ true → colourOf t c m denom ≡ narrowed (clamped (wantedOf t c m denom))
+  unfolding colourOf
+  positive t c denom e = simp e
+
+  pub known-step : (p : Float) (ch : ℕ) → lt nought (a ⊗ n) ≡ true → p ≡ narrowed (clamped (wantedAt s ch m (a ⊗ n))) → p ≡ colourAt s a ch
+  known-step p ch e h = colour-step p ch (h ∙ sym (positive (channel (s .«s_t») ch) (channel (s .«s_c») ch) (a ⊗ n) e))
 
   pub after-steps : (p0 p1 p2 e0 e1 e2 : Float) → (p0 ≡ colourAt s a 0) × (p1 ≡ colourAt s a 1) × (p2 ≡ colourAt s a 2)
       → e0 ≡ errorAfter (channel (s .«s_t2») 0) (channel (s .«s_tc») 0) (channel (s .«s_c2») 0) (channel (s .«s_t») 0) (channel (s .«s_c») 0) a m p0 n

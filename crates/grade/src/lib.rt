@@ -2,6 +2,10 @@
 ghost use mathlib.Core.Path.{_≡_};
 ghost use Prim.Native.Nat.{_<_, _≤_};
 ghost use lib.ListN.{length};
+ghost use lib.Dec.{T};
+ghost use Rattle.float.specs.Within.{number};
+ghost use Rattle.float.specs.Clamped.{clamped};
+ghost use Rattle.float.specs.Narrowed.{narrowed};
 ghost use Rattle.grade.specs.Finalize.{
   errorBefore,
   colourOf,
@@ -10,6 +14,7 @@ ghost use Rattle.grade.specs.Finalize.{
   overChannels,
   countOf,
   colourAt,
+  wantedAt,
   beforeAt,
   afterAt,
   finalized,
@@ -73,13 +78,6 @@ pub fn no_score(opacity: f32, count: u32) -> Score
     }
 }
 
-// What a channel's error becomes. Narrowing stands apart, so that this is inlined and what the channels share is worked out once.
-fn weigh(t: f64, c: f64, tt: f64, cc: f64, tc: f64, a: f64, m: f64, p: f32, n: f64) -> f64
-    ensures { λ r. ⌜ r ≡ errorAfter tt tc cc t c a m p n ⌝ }
-{
-    error_after(tt, tc, cc, t, c, a, m, float::widen(p), n)
-}
-
 // The errors as they are, over the channels: the same at every opacity.
 fn all_before(s: ShapeSums) -> f64
     ensures { λ r. ⌜ r ≡ overChannels (beforeAt s) ⌝ }
@@ -112,8 +110,8 @@ fn colour_at(s: ShapeSums, channel: usize, a: f64, m: f64, n: f64) -> f32
     colour(t[channel], c[channel], m, a * n)
 }
 
-// The errors with the colours drawn over them, over the channels.
-fn all_after(s: ShapeSums, a: f64, m: f64, n: f64, red: f32, green: f32, blue: f32) -> f64
+// The errors with the colours drawn over them, over the channels. What the channels share is worked out once.
+fn all_wide(s: ShapeSums, a: f64, m: f64, n: f64, red: f64, green: f64, blue: f64) -> f64
     requires rest { ⌜ m ≡ rest a ⌝ }
     requires pixels { ⌜ n ≡ countOf s ⌝ }
     requires colours { ⌜ (red ≡ colourAt s a 0) × (green ≡ colourAt s a 1) × (blue ≡ colourAt s a 2) ⌝ }
@@ -124,10 +122,46 @@ fn all_after(s: ShapeSums, a: f64, m: f64, n: f64, red: f32, green: f32, blue: f
     let tt = s.s_t2;
     let cc = s.s_c2;
     let tc = s.s_tc;
-    let first = weigh(t[0], c[0], tt[0], cc[0], tc[0], a, m, red, n);
-    let second = weigh(t[1], c[1], tt[1], cc[1], tc[1], a, m, green, n);
-    let third = weigh(t[2], c[2], tt[2], cc[2], tc[2], a, m, blue, n);
+    let first = error_after(tt[0], tc[0], cc[0], t[0], c[0], a, m, red, n);
+    let second = error_after(tt[1], tc[1], cc[1], t[1], c[1], a, m, green, n);
+    let third = error_after(tt[2], tc[2], cc[2], t[2], c[2], a, m, blue, n);
     0.0 + first + second + third
+}
+
+// The same of colours that are not widened yet; one may be a NaN.
+fn all_after(s: ShapeSums, a: f64, m: f64, n: f64, red: f32, green: f32, blue: f32) -> f64
+    requires rest { ⌜ m ≡ rest a ⌝ }
+    requires pixels { ⌜ n ≡ countOf s ⌝ }
+    requires colours { ⌜ (red ≡ colourAt s a 0) × (green ≡ colourAt s a 1) × (blue ≡ colourAt s a 2) ⌝ }
+    ensures { λ r. ⌜ r ≡ overChannels (afterAt s a) ⌝ }
+{
+    all_wide(
+        s,
+        a,
+        m,
+        n,
+        float::widen(red),
+        float::widen(green),
+        float::widen(blue),
+    )
+}
+
+// A channel's colour before it is held to 0..1, where denom is above 0.
+fn wanted_at(s: ShapeSums, ch: usize, m: f64, denom: f64) -> f64
+    requires { ⌜ ch < 3 ⌝ }
+    ensures { λ r. ⌜ r ≡ wantedAt s ch m denom ⌝ }
+{
+    let t = s.s_t;
+    let c = s.s_c;
+    (t[ch] - m * c[ch]) / denom
+}
+
+// Of a number the colour is a number, so that it is widened without a test.
+fn known_colour(q: f64) -> f64
+    requires { ⌜ T (number q) ⌝ }
+    ensures { λ r. ⌜ r ≡ narrowed (clamped q) ⌝ }
+{
+    float::widen_number(float::narrow01(q))
 }
 
 // The change and the colour at an opacity, from the sums alone: one geometry is scored at many opacities.
@@ -162,8 +196,8 @@ fn finalize_from(s: ShapeSums, opacity: f32, before: f64) -> Score
     }
 }
 
-// The change alone, for the sweep: a number comes back in a register, a score through memory.
-fn change_from(s: ShapeSums, opacity: f32, before: f64) -> f32
+// The change alone: a number comes back in a register, a score through memory.
+fn change_any(s: ShapeSums, opacity: f32, before: f64) -> f32
     requires { ⌜ before ≡ overChannels (beforeAt s) ⌝ }
     ensures { λ r. ⌜ r ≡ finalized s opacity .change ⌝ }
 {
@@ -179,6 +213,41 @@ fn change_from(s: ShapeSums, opacity: f32, before: f64) -> f32
     let blue = colour_at(s, 2, a, m, n);
     let after = all_after(s, a, m, n, red, green, blue);
     float::narrow(after - before)
+}
+
+// The same for the sweep. Where the sum of the three colours before they are held to 0..1 is a number, so are they: no colour is looked at
+// for a NaN then.
+fn change_from(s: ShapeSums, opacity: f32, before: f64) -> f32
+    requires { ⌜ before ≡ overChannels (beforeAt s) ⌝ }
+    ensures { λ r. ⌜ r ≡ finalized s opacity .change ⌝ }
+{
+    let count = s.count;
+    if count == 0 {
+        return 0.0;
+    }
+    let m = rest_of(opacity);
+    let a = float::widen(opacity);
+    let n = count as f64;
+    let denom = a * n;
+    if denom > 0.0 {
+        let red = wanted_at(s, 0, m, denom);
+        let green = wanted_at(s, 1, m, denom);
+        let blue = wanted_at(s, 2, m, denom);
+        let sum = red + green + blue;
+        if sum == sum {
+            let after = all_wide(
+                s,
+                a,
+                m,
+                n,
+                known_colour(red),
+                known_colour(green),
+                known_colour(blue),
+            );
+            return float::narrow(after - before);
+        }
+    }
+    change_any(s, opacity, before)
 }
 
 // The first of the first n levels with the strictly smallest change. The lowest change so far starts at infinity, so

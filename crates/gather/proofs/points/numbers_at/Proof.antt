@@ -8,11 +8,10 @@ use native.Mathlib.Decide.{ℕ-discrete}
 use lib.Dec.{T}
 use lib.ListN.{getD}
 use lib.Ieee.{Float, nan, eq, binary32}
-use Rattle.laws.specs.Bools.{true-is, and-left, and-right}
+use Rattle.laws.specs.Bools.{and-left, and-right}
 use Rattle.laws.specs.F32.{_⊞_}
 use Rattle.float.specs.Within.{number}
-use Rattle.float.specs.Numbers.{itself-number}
-use Rattle.float.specs.MarksLaws.{sum-numbers}
+use Rattle.float.specs.MarksLaws.{addends}
 use Rattle.gather.specs.RunSums.{NumbersIn}
 use borrow.Author.Needs.{needs}
 use Rattle.gather.proofs.points.numbers_at.Statement.{statement}
@@ -66,13 +65,6 @@ mul-second-3 c = search needs
 shared-slice-read-second-3 : tie.Need-shared-slice-read-second-3
 shared-slice-read-second-3 c = search needs
 
--- three addends of a sum that equals itself
-addends : (x y z : Float) → eq (x ⊞ y ⊞ z) (x ⊞ y ⊞ z) ≡ true → T (number x) × T (number y) × T (number z)
-addends x y z e =
-    let p = sum-numbers binary32 (x ⊞ y) z (true-is (number (x ⊞ y ⊞ z)) (sym (itself-number (x ⊞ y ⊞ z)) ∙ e)) in
-    let q = sum-numbers binary32 x y (p .0) in
-    (q .0, q .1, p .1)
-
 -- three numbers in a row
 three : (xs : List Float) (at : ℕ) → T (number (getD xs at nan)) → T (number (getD xs (at + 1) nan)) → T (number (getD xs (at + 2) nan)) → NumbersIn xs at (at + 3)
 three xs at a b c i l h = by (ℕ-discrete i at) (ℕ-discrete i (at + 1))
@@ -94,8 +86,8 @@ returns c =
     let x = getD t n nan ⊞ getD v n nan ⊞ getD t (n + 2) nan in
     let y = getD t (n + 1) nan ⊞ getD v (n + 1) nan ⊞ getD v (n + 2) nan in
     λ e.
-    let p = addends (getD t n nan) (getD v n nan) (getD t (n + 2) nan) (and-left (eq x x) (eq y y) e) in
-    let q = addends (getD t (n + 1) nan) (getD v (n + 1) nan) (getD v (n + 2) nan) (and-right (eq x x) (eq y y) e) in
+    let p = addends binary32 (getD t n nan) (getD v n nan) (getD t (n + 2) nan) (and-left (eq x x) (eq y y) e) in
+    let q = addends binary32 (getD t (n + 1) nan) (getD v (n + 1) nan) (getD v (n + 2) nan) (and-right (eq x x) (eq y y) e) in
     (three t n (p .0) (q .0) (p .2), three v n (p .1) (q .1) (q .2))
 
 pub numbers-at-spec : {M : Type 1} → statement M
