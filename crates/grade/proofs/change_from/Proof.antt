@@ -46,15 +46,6 @@ rest-is w = w .before .rest-of .ensures ∙ ap rest (sym (w .widen .ensures))
 numbers : (c : tie.Then3) → T (number (c .before .before .before .wanted-at .result)) × T (number (c .before .before .wanted-at2 .result)) × T (number (c .before .wanted-at3 .result))
 numbers c = addends binary64 (c .before .before .before .wanted-at .result) (c .before .before .wanted-at2 .result) (c .before .wanted-at3 .result) (c .if3 .taken)
 
-known-colour-requires : tie.Need-known-colour-requires
-known-colour-requires c κs = numbers c .0
-
-known-colour-requires-2 : tie.Need-known-colour-requires-2
-known-colour-requires-2 c κs = numbers (c .before) .1
-
-known-colour-requires-3 : tie.Need-known-colour-requires-3
-known-colour-requires-3 c κs = numbers (c .before .before) .2
-
 -- the colours are the rule's
 module _ (c : tie.After-known-colour3) where
   abbrev then3 : tie.Then3
@@ -103,6 +94,15 @@ change-any-requires c κs = search needs
 
 returns-3 : tie.Need-returns-3
 returns-3 c = search needs
+
+known-colour-requires : tie.Need-known-colour-requires
+known-colour-requires c κs = numbers c .0
+
+known-colour-requires-2 : tie.Need-known-colour-requires-2
+known-colour-requires-2 c κs = numbers (c .before) .1
+
+known-colour-requires-3 : tie.Need-known-colour-requires-3
+known-colour-requires-3 c κs = numbers (c .before .before) .2
 
 pub change-from-spec : {M : Type 1} → statement M
 change-from-spec =
