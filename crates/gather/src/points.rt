@@ -15,24 +15,24 @@ ghost use Rattle.gather.specs.Paired.{unpairedOf, UnpairedSays};
 use cover::Kind;
 use sums::ShapeSums;
 
-// The sums in the order that the compiler pairs well: it adds the first two channels of a pixel side by side in one register, and of the third
-// those that have a factor of the canvas, and the two pictures' own.
+// The sums in the order that the compiler pairs well: it adds green and blue of a pixel side by side in one register, and of red those that have
+// a factor of the canvas, and the two pictures' own. `finalize` reads green and blue as pairs too, as they were written.
 pub struct Paired {
-    t0: f64,
     t1: f64,
-    c0: f64,
+    t2: f64,
     c1: f64,
-    tt0: f64,
+    c2: f64,
     tt1: f64,
-    cc0: f64,
+    tt2: f64,
     cc1: f64,
-    tc0: f64,
+    cc2: f64,
     tc1: f64,
     tc2: f64,
-    cc2: f64,
-    t2: f64,
-    c2: f64,
-    tt2: f64,
+    tc0: f64,
+    cc0: f64,
+    t0: f64,
+    c0: f64,
+    tt0: f64,
     count: u32,
 }
 
@@ -40,21 +40,21 @@ fn no_pairs() -> Paired
     ensures { λ r. ⌜ unpairedOf r ≡ noSums ⌝ }
 {
     Paired {
-        t0: 0.0,
         t1: 0.0,
-        c0: 0.0,
+        t2: 0.0,
         c1: 0.0,
-        tt0: 0.0,
+        c2: 0.0,
         tt1: 0.0,
-        cc0: 0.0,
+        tt2: 0.0,
         cc1: 0.0,
-        tc0: 0.0,
+        cc2: 0.0,
         tc1: 0.0,
         tc2: 0.0,
-        cc2: 0.0,
-        t2: 0.0,
-        c2: 0.0,
-        tt2: 0.0,
+        tc0: 0.0,
+        cc0: 0.0,
+        t0: 0.0,
+        c0: 0.0,
+        tt0: 0.0,
         count: 0,
     }
 }
@@ -65,21 +65,21 @@ fn push_pair(s: Paired, tr: f64, tg: f64, tb: f64, cr: f64, cg: f64, cb: f64) ->
     ensures { λ r. ⌜ unpairedOf r ≡ plus (unpairedOf s) (pixelSums tr tg tb cr cg cb) ⌝ }
 {
     Paired {
-        t0: s.t0 + tr,
         t1: s.t1 + tg,
-        c0: s.c0 + cr,
+        t2: s.t2 + tb,
         c1: s.c1 + cg,
-        tt0: s.tt0 + tr * tr,
+        c2: s.c2 + cb,
         tt1: s.tt1 + tg * tg,
-        cc0: s.cc0 + cr * cr,
+        tt2: s.tt2 + tb * tb,
         cc1: s.cc1 + cg * cg,
-        tc0: s.tc0 + tr * cr,
+        cc2: s.cc2 + cb * cb,
         tc1: s.tc1 + tg * cg,
         tc2: s.tc2 + tb * cb,
-        cc2: s.cc2 + cb * cb,
-        t2: s.t2 + tb,
-        c2: s.c2 + cb,
-        tt2: s.tt2 + tb * tb,
+        tc0: s.tc0 + tr * cr,
+        cc0: s.cc0 + cr * cr,
+        t0: s.t0 + tr,
+        c0: s.c0 + cr,
+        tt0: s.tt0 + tr * tr,
         count: s.count + 1,
     }
 }
@@ -165,8 +165,8 @@ fn numbers_at(target: &[f32], canvas: &[f32], at: usize) -> bool
     requires { ⌜ (at + 3 ≤ length (now target)) × (at + 3 ≤ length (now canvas)) ⌝ }
     ensures { λ r. ⌜ (r ≡ true → NumbersIn (now (target .entry)) at (at + 3) × NumbersIn (now (canvas .entry)) at (at + 3)) ⌝ }
 {
-    let first = target[at] + canvas[at] + target[at + 2];
-    let second = target[at + 1] + canvas[at + 1] + canvas[at + 2];
+    let first = target[at + 1] + canvas[at + 1] + target[at];
+    let second = target[at + 2] + canvas[at + 2] + canvas[at];
     (first == first) & (second == second)
 }
 
@@ -269,13 +269,13 @@ fn push_rows(
 }
 
 // Where the channels of the first pixel begin that the bits say, of a picture whose rows have `row` numbers; the stamp begins at place `corner`.
-// Of no bit it is a place behind the stamp, which nothing reads.
+// Of no bit it is a place behind the stamp, which nothing reads. Three numbers for each pixel before it, and for each row the rest of a row.
 fn first_place(bits: u64, corner: usize, row: usize) -> usize
     requires { ⌜ (corner ≤ 200000) × (row ≤ 768) ⌝ }
     ensures { λ r. ⌜ r ≡ firstPlace corner row bits ⌝ }
 {
     let i = u64::trailing_zeros(bits) as usize;
-    corner + i / 8 * row + i % 8 * 3
+    corner + i * 3 + i / 8 * row - i / 8 * 24
 }
 
 // The bits without the first that is 1.

@@ -39,7 +39,7 @@ fn add_rows(runs: &[u16; 512], top: usize, bottom: usize, table: &[f64], w: usiz
     s
 }
 
-// The run of a stamp's row, if it has a pixel: eight bits, of which the lowest is column left.
+// The run of a stamp's row that has a pixel: eight bits, of which the lowest is column left.
 fn add_stamp_row(
     row: u32,
     left: usize,
@@ -48,19 +48,17 @@ fn add_stamp_row(
     w: usize,
     s: ShapeSums,
 ) -> ShapeSums
-    requires { ⌜ (row < 256) × (left < 256) × (w ≤ 256) × (s .count ≤ 64) ⌝ }
+    requires { ⌜ (0 < row) × (row < 256) × (left < 256) × (w ≤ 256) × (s .count ≤ 64) ⌝ }
     requires { ⌜ RowIn w left y (length (now table)) row ⌝ }
     ensures { λ r. ⌜ r ≡ stampRow w (now (table .entry)) left y row s ⌝ }
 {
-    if row == 0 {
-        return s;
-    }
     let first = u32::trailing_zeros(row) as usize;
     let past = 32 - u32::leading_zeros(row) as usize;
     table::add_span(table, w, y, left + first, left + past, s)
 }
 
-// The runs of a stamp's rows, from the top row down.
+// The runs of a stamp's rows, from the top row down. A row without a pixel is passed over here: were it left to the function above, the count
+// would be kept in memory, since of the two answers one is what it was given.
 pub fn add_stamp(bits: u64, left: usize, top: usize, table: &[f64], w: usize) -> ShapeSums
     requires window { ⌜ (left < 256) × (top < 256) × (w ≤ 256) ⌝ }
     requires rows { ⌜ RowsIn w left top (length (now table)) 8 bits ⌝ }
@@ -70,7 +68,10 @@ pub fn add_stamp(bits: u64, left: usize, top: usize, table: &[f64], w: usize) ->
     let mut b = bits;
     let mut y = top;
     while b != 0 {
-        s = add_stamp_row((b % 256) as u32, left, y, table, w, s);
+        let row = (b % 256) as u32;
+        if row != 0 {
+            s = add_stamp_row(row, left, y, table, w, s);
+        }
         b = b / 256;
         y += 1;
     }

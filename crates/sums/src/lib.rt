@@ -5,8 +5,8 @@ ghost use Rattle.sums.specs.Sums.{sum3, difference3, product3, pixelSums
 
 pub struct ShapeSums {
     pub s_t: [f64; 3],
-    pub s_c: [f64; 3],
     pub s_t2: [f64; 3],
+    pub s_c: [f64; 3],
     pub s_c2: [f64; 3],
     pub s_tc: [f64; 3],
     pub count: u32,

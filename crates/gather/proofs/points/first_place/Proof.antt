@@ -17,20 +17,35 @@ cast-i : tie.Need-cast-i
 cast-i c = let l = trailing-le 64 (c .args .bits) in omega (arith, l)
 
 mul-result : tie.Need-mul-result
-mul-result c = omega (arith, small c)
+mul-result c = let l = trailing-le 64 (c .args .bits) in omega (arith, l)
 
 add-result : tie.Need-add-result
-add-result c = omega (arith, small c, c .pre .0)
+add-result c = let l = trailing-le 64 (c .args .bits) in omega (arith, l, c .pre .0)
 
 mul-result-2 : tie.Need-mul-result-2
-mul-result-2 c = search needs
+mul-result-2 c = omega (arith, small c)
 
 add-result-2 : tie.Need-add-result-2
-add-result-2 c = omega (arith, small c, c .pre .0)
+add-result-2 c = let l = trailing-le 64 (c .args .bits) in omega (arith, l, small c, c .pre .0)
+
+mul-result-3 : tie.Need-mul-result-3
+mul-result-3 c = let l = trailing-le 64 (c .args .bits) in omega (arith, l)
+
+sub-result : tie.Need-sub-result
+sub-result c = omega arith
 
 returns : tie.Need-returns
-returns c = search needs
+returns c = omega arith
 
 pub first-place-spec : {M : Type 1} → statement M
 first-place-spec =
-    tie.close (tie.spec cast-i mul-result add-result mul-result-2 add-result-2 returns)
+    tie.close
+    (tie.spec
+    cast-i
+    mul-result
+    add-result
+    mul-result-2
+    add-result-2
+    mul-result-3
+    sub-result
+    returns)

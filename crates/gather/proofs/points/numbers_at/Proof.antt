@@ -17,20 +17,23 @@ use borrow.Author.Needs.{needs}
 use Rattle.gather.proofs.points.numbers_at.Statement.{statement}
 use Rattle.gather.proofs.points.numbers_at.Tie as tie
 
+add-first : tie.Need-add-first
+add-first c = search needs
+
 mul-first : tie.Need-mul-first
 mul-first c = search needs
 
 shared-slice-read-first : tie.Need-shared-slice-read-first
 shared-slice-read-first c = search needs
 
+add-first-2 : tie.Need-add-first-2
+add-first-2 c = search needs
+
 mul-first-2 : tie.Need-mul-first-2
 mul-first-2 c = search needs
 
 shared-slice-read-first-2 : tie.Need-shared-slice-read-first-2
 shared-slice-read-first-2 c = search needs
-
-add-first : tie.Need-add-first
-add-first c = search needs
 
 mul-first-3 : tie.Need-mul-first-3
 mul-first-3 c = search needs
@@ -56,9 +59,6 @@ mul-second-2 c = search needs
 shared-slice-read-second-2 : tie.Need-shared-slice-read-second-2
 shared-slice-read-second-2 c = search needs
 
-add-second-3 : tie.Need-add-second-3
-add-second-3 c = search needs
-
 mul-second-3 : tie.Need-mul-second-3
 mul-second-3 c = search needs
 
@@ -83,22 +83,23 @@ returns c =
     let t = s .args .target .now in
     let v = s .args .canvas .now in
     let n = s .args .at in
-    let x = getD t n nan ⊞ getD v n nan ⊞ getD t (n + 2) nan in
-    let y = getD t (n + 1) nan ⊞ getD v (n + 1) nan ⊞ getD v (n + 2) nan in
+    let x = getD t (n + 1) nan ⊞ getD v (n + 1) nan ⊞ getD t n nan in
+    let y = getD t (n + 2) nan ⊞ getD v (n + 2) nan ⊞ getD v n nan in
     λ e.
-    let p = addends binary32 (getD t n nan) (getD v n nan) (getD t (n + 2) nan) (and-left (eq x x) (eq y y) e) in
-    let q = addends binary32 (getD t (n + 1) nan) (getD v (n + 1) nan) (getD v (n + 2) nan) (and-right (eq x x) (eq y y) e) in
-    (three t n (p .0) (q .0) (p .2), three v n (p .1) (q .1) (q .2))
+    let p = addends binary32 (getD t (n + 1) nan) (getD v (n + 1) nan) (getD t n nan) (and-left (eq x x) (eq y y) e) in
+    let q = addends binary32 (getD t (n + 2) nan) (getD v (n + 2) nan) (getD v n nan) (and-right (eq x x) (eq y y) e) in
+    (three t n (p .2) (p .0) (q .0), three v n (q .2) (p .1) (q .1))
 
 pub numbers-at-spec : {M : Type 1} → statement M
 numbers-at-spec =
     tie.close
     (tie.spec
+    add-first
     mul-first
     shared-slice-read-first
+    add-first-2
     mul-first-2
     shared-slice-read-first-2
-    add-first
     mul-first-3
     shared-slice-read-first-3
     add-second
@@ -107,7 +108,6 @@ numbers-at-spec =
     add-second-2
     mul-second-2
     shared-slice-read-second-2
-    add-second-3
     mul-second-3
     shared-slice-read-second-3
     returns)

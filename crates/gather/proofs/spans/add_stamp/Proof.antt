@@ -1,12 +1,13 @@
 -- `gather::spans::add_stamp` meets its contract: a turn for each row, until no bit is left.
 use mathlib.Core.Path.{_≡_, refl, sym, _∙_, ap}
+use mathlib.Core.Logic.{⊎-elim}
 use Prim.Native.Nat.{ℕ, _+_, _-_, _*_, _/_, _%_, _^_, _≤_, _<_}
 use lib.ListN.{length}
 use Rattle.sums.specs.declared.ShapeSums.{ShapeSums}
 use Rattle.sums.specs.Sums.{noSums}
 use Rattle.gather.specs.RunSumLaws.{no-count}
 use Rattle.gather.specs.StampSums.{stampRow, stampSpans, RowIn, RowsIn}
-use Rattle.gather.specs.StampSumLaws.{row-count, spans-more, spans-done, some-left, row-here, rows-behind}
+use Rattle.gather.specs.StampSumLaws.{row-count, row-skipped, spans-more, spans-done, some-left, row-here, rows-behind}
 use borrow.Author.Needs.{needs}
 use native.Mathlib.Omega.{arith}
 use Rattle.gather.proofs.spans.add_stamp.Statement.{statement}
@@ -49,13 +50,14 @@ module _ (c : tie.In-loop Inv-loop μ-loop) where
       let l = c .before .loop in
       row-here (a .w) (a .left) (l .y) (length (a .table .now)) (a .top + 8 - l .y) (l .b) left-over (l .inv .3)
 
-cast-add-stamp-row : tie.Need-cast-add-stamp-row Inv-loop μ-loop
-cast-add-stamp-row c = omega arith
+cast-row : tie.Need-cast-row Inv-loop μ-loop
+cast-row c = omega arith
 
 add-stamp-row-requires : tie.Need-add-stamp-row-requires Inv-loop μ-loop
 add-stamp-row-requires c κs =
-    let p = start c .pre .0 in
-    ((omega arith, p .0, p .2, omega (arith, c .before .loop .inv .2, left-over c, c .before .loop .inv .1)), row c)
+    let i = c .before in
+    let p = start i .pre .0 in
+    ((omega (arith, c .if1 .taken), omega arith, p .0, p .2, omega (arith, i .before .loop .inv .2, left-over i, i .before .loop .inv .1)), row i)
 
 add-y : tie.Need-add-y Inv-loop μ-loop
 add-y c = omega (arith, left-over (c .before), start (c .before) .pre .0 .1)
@@ -68,7 +70,14 @@ loop-again c =
     let i = c .before in
     let l = i .before .loop in
     let a = start i .args in
-    let r = c .add-stamp-row .ensures in
+    -- the row's turn, added or passed over
+    let r =
+    ⊎-elim
+    (λ w. w .2 ∙ w .1 .ensures)
+    (λ w.
+    let z : l .b % 256 ≡ 0 = omega (arith, w .0 .left) in
+    w .1 ∙ sym (row-skipped (a .w) (a .table .now) (a .left) (l .y) (l .s)) ∙ ap (λ (r : ℕ). stampRow (a .w) (a .table .now) (a .left) (l .y) r (l .s)) (sym z))
+    (c .if1 .came) in
     let n : a .top + 8 - (l .y + 1) ≡ a .top + 8 - l .y - 1 = omega arith in (
       omega (arith, l .inv .0),
       omega (arith, left-over i),
@@ -94,7 +103,7 @@ add-stamp-spec =
     μ-loop
     new-requires
     loop-holds
-    cast-add-stamp-row
+    cast-row
     add-stamp-row-requires
     add-y
     loop-less
