@@ -11,6 +11,7 @@ pub mod Rounding
 pub mod Held
 pub mod NarrowLaws
 pub mod Narrowing
+pub mod Masked
 pub mod OrderLaws
 pub mod WithinLaws
 pub mod BlendLaws

@@ -97,11 +97,11 @@ sign-is b h = go (leb 0x8000_0000_0000_0000 b) (leb→le 0x8000_0000_0000_0000 b
     go true t f = let l = t tt in omega arith
     go false t f = let l = f tt in omega arith
 
-of64 : (b : ℕ) → ofBits binary64 b ≡ ofFields binary64 (leb 0x8000_0000_0000_0000 b) (b % 0x8000_0000_0000_0000 / 0x10_0000_0000_0000) (b % 0x10_0000_0000_0000)
+pub of64 : (b : ℕ) → ofBits binary64 b ≡ ofFields binary64 (leb 0x8000_0000_0000_0000 b) (b % 0x8000_0000_0000_0000 / 0x10_0000_0000_0000) (b % 0x10_0000_0000_0000)
 unfolding ofBits
 of64 b = refl
 
-mid : (s : Bool) (t x : ℕ) → suc x < 2047 → ofFields binary64 s (suc x) t ≡ odd 53 s (0x10_0000_0000_0000 + t) x 1074
+pub mid : (s : Bool) (t x : ℕ) → suc x < 2047 → ofFields binary64 s (suc x) t ≡ odd 53 s (0x10_0000_0000_0000 + t) x 1074
 unfolding ofFields
 mid s t x h =
     cond-no (eqb (suc x) 2047) (cond (eqb t 0) (inf s) nan) (odd 53 s (0x10_0000_0000_0000 + t) x 1074) (not-T (eqb (suc x) 2047) (λ (u : T (eqb (suc x) 2047)). differ (eqb→eq (suc x) 2047 u)))
@@ -134,14 +134,14 @@ module _ (s : Bool) (t y : ℕ) (H : t < 0x10_0000_0000_0000) where
   q-lt : q < 2 ^ 53
   q-lt = omega arith
 
-  normal-le : closest q 0x2000_0000 ≤ 0x100_0000
+  pub normal-le : closest q 0x2000_0000 ≤ 0x100_0000
   normal-le = closest-le q 0x2000_0000 0xff_ffff (lit< tt) (omega arith)
 
-  normal-ge : 0x80_0000 ≤ closest q 0x2000_0000
+  pub normal-ge : 0x80_0000 ≤ closest q 0x2000_0000
   normal-ge = le-trans (omega arith) (nearest-ge (q / 0x2000_0000) (compare (q % 0x2000_0000 * 2) 0x2000_0000))
 
   -- exponent field suc y, from 897 up
-  normal : 896 ≤ y → suc y < 2047 → narrowed (ofFields binary64 s (suc y) t) ≡ units binary32 s (closest q 0x2000_0000) (y - 896)
+  pub normal : 896 ≤ y → suc y < 2047 → narrowed (ofFields binary64 s (suc y) t) ≡ units binary32 s (closest q 0x2000_0000) (y - 896)
   normal l h = ap narrowed (mid s t y h) ∙ narrow-odd s q y 0 (y - 896) q-lt (omega arith) (inr (refl, le-add-right 0x10_0000_0000_0000 t))
 
   pub normal-under : 896 ≤ y → (y - 896) * 0x80_0000 + closest q 0x2000_0000 < 0x7f80_0000

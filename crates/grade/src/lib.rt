@@ -2,10 +2,13 @@
 ghost use mathlib.Core.Path.{_≡_};
 ghost use Prim.Native.Nat.{_<_, _≤_};
 ghost use lib.ListN.{length};
+ghost use mathlib.Core.Bool.{true};
 ghost use lib.Dec.{T};
+ghost use lib.Ieee.{binary64, toBits};
 ghost use Rattle.float.specs.Within.{number};
 ghost use Rattle.float.specs.Clamped.{clamped};
 ghost use Rattle.float.specs.Narrowed.{narrowed};
+ghost use Rattle.float.specs.Masked.{Plain};
 ghost use Rattle.grade.specs.Finalize.{
   errorBefore,
   colourOf,
@@ -14,7 +17,9 @@ ghost use Rattle.grade.specs.Finalize.{
   overChannels,
   countOf,
   colourAt,
+  wantedOf,
   wantedAt,
+  Summed,
   beforeAt,
   afterAt,
   finalized,
@@ -147,13 +152,19 @@ fn all_after(s: ShapeSums, a: f64, m: f64, n: f64, red: f32, green: f32, blue: f
 }
 
 // A channel's colour before it is held to 0..1, where denom is above 0.
+fn wanted(t: f64, c: f64, m: f64, denom: f64) -> f64
+    ensures { λ r. ⌜ r ≡ wantedOf t c m denom ⌝ }
+{
+    (t - m * c) / denom
+}
+
 fn wanted_at(s: ShapeSums, ch: usize, m: f64, denom: f64) -> f64
     requires { ⌜ ch < 3 ⌝ }
     ensures { λ r. ⌜ r ≡ wantedAt s ch m denom ⌝ }
 {
     let t = s.s_t;
     let c = s.s_c;
-    (t[ch] - m * c[ch]) / denom
+    wanted(t[ch], c[ch], m, denom)
 }
 
 // Of a number the colour is a number, so that it is widened without a test.
@@ -164,14 +175,147 @@ fn known_colour(q: f64) -> f64
     float::widen_number(float::narrow01(q))
 }
 
-// The change and the colour at an opacity, from the sums alone: one geometry is scored at many opacities.
+// An f32 has as many digits for q as it has for any number: q is 0, or not below f32's normal range.
+fn plain(q: f64) -> bool
+    requires { ⌜ T (number q) ⌝ }
+    ensures { λ r. ⌜ (r ≡ true → Plain (toBits binary64 q)) ⌝ }
+{
+    let b = f64::to_bits(q);
+    (b == 0) | ((0x3810_0000_0000_0000 <= b) & (b < 0x4000_0000_0000_0000))
+}
+
+// Such a number with an f32's digits: the last 29 are rounded off, by the pattern. It is an f64 still, as the errors want it.
+fn rounded(q: f64) -> f64
+    requires { ⌜ T (number q) × Plain (toBits binary64 q) ⌝ }
+    ensures { λ r. ⌜ r ≡ narrowed q ⌝ }
+{
+    let b = f64::to_bits(q);
+    f64::from_bits((b + 0x0fff_ffff + b / 0x2000_0000 % 2) / 0x2000_0000 * 0x2000_0000)
+}
+
+// The change and the colour at an opacity, from the sums alone: one geometry is scored at many opacities. The sums that the colours wait for go
+// by number.
 pub fn finalize(s: ShapeSums, opacity: f32) -> Score
     ensures { λ r. ⌜ FinalizeSays s opacity r ⌝ }
 {
-    finalize_from(s, opacity, all_before(s))
+    let t = s.s_t;
+    let c = s.s_c;
+    finalize_from(
+        s,
+        opacity,
+        all_before(s),
+        t[0],
+        t[1],
+        t[2],
+        c[0],
+        c[1],
+        c[2],
+    )
 }
 
-fn finalize_from(s: ShapeSums, opacity: f32, before: f64) -> Score
+// Where the colours are numbers, as the sum of the three shows, and have an f32's digits, no branch asks where they lie.
+fn finalize_from(
+    s: ShapeSums,
+    opacity: f32,
+    before: f64,
+    t0: f64,
+    t1: f64,
+    t2: f64,
+    c0: f64,
+    c1: f64,
+    c2: f64,
+) -> Score
+    requires before { ⌜ before ≡ overChannels (beforeAt s) ⌝ }
+    requires sums { ⌜ Summed s t0 t1 t2 c0 c1 c2 ⌝ }
+    ensures { λ r. ⌜ r ≡ finalized s opacity ⌝ }
+{
+    let count = s.count;
+    if count == 0 {
+        return no_score(opacity, 0);
+    }
+    let m = rest_of(opacity);
+    let a = float::widen(opacity);
+    let n = count as f64;
+    let denom = a * n;
+    if denom > 0.0 {
+        let red = wanted(t0, c0, m, denom);
+        let green = wanted(t1, c1, m, denom);
+        let blue = wanted(t2, c2, m, denom);
+        let sum = red + green + blue;
+        if sum == sum {
+            let r = float::clamp01(red);
+            let g = float::clamp01(green);
+            let b = float::clamp01(blue);
+            if plain(r) & plain(g) & plain(b) {
+                return plain_score(
+                    s,
+                    opacity,
+                    before,
+                    t0,
+                    t1,
+                    t2,
+                    c0,
+                    c1,
+                    c2,
+                    a,
+                    m,
+                    n,
+                    rounded(r),
+                    rounded(g),
+                    rounded(b),
+                );
+            }
+        }
+    }
+    finalize_any(s, opacity, before)
+}
+
+// The score with these colours, which an f32 holds.
+fn plain_score(
+    s: ShapeSums,
+    opacity: f32,
+    before: f64,
+    t0: f64,
+    t1: f64,
+    t2: f64,
+    c0: f64,
+    c1: f64,
+    c2: f64,
+    a: f64,
+    m: f64,
+    n: f64,
+    red: f64,
+    green: f64,
+    blue: f64,
+) -> Score
+    requires before { ⌜ before ≡ overChannels (beforeAt s) ⌝ }
+    requires sums { ⌜ Summed s t0 t1 t2 c0 c1 c2 ⌝ }
+    requires some { ⌜ (s .count ≡ 0 → ⊥) ⌝ }
+    requires opacity { ⌜ (a ≡ opacity) × (m ≡ rest a) ⌝ }
+    requires pixels { ⌜ n ≡ countOf s ⌝ }
+    requires colours { ⌜ (red ≡ colourAt s a 0) × (green ≡ colourAt s a 1) × (blue ≡ colourAt s a 2) ⌝ }
+    requires numbers { ⌜ T (number red) × T (number green) × T (number blue) ⌝ }
+    ensures { λ r. ⌜ r ≡ finalized s opacity ⌝ }
+{
+    let tt = s.s_t2;
+    let cc = s.s_c2;
+    let tc = s.s_tc;
+    let first = error_after(tt[0], tc[0], cc[0], t0, c0, a, m, red, n);
+    let second = error_after(tt[1], tc[1], cc[1], t1, c1, a, m, green, n);
+    let third = error_after(tt[2], tc[2], cc[2], t2, c2, a, m, blue, n);
+    let after = 0.0 + first + second + third;
+    Score {
+        opacity: opacity,
+        count: s.count,
+        change: float::narrow(after - before),
+        red: red as f32,
+        green: green as f32,
+        blue: blue as f32,
+    }
+}
+
+// The same of any colours.
+fn finalize_any(s: ShapeSums, opacity: f32, before: f64) -> Score
     requires { ⌜ before ≡ overChannels (beforeAt s) ⌝ }
     ensures { λ r. ⌜ r ≡ finalized s opacity ⌝ }
 {
@@ -271,5 +415,5 @@ pub fn sweep(s: ShapeSums, levels: &[f32], n: usize) -> Score
     if best == n {
         return no_score(levels[0], s.count);
     }
-    finalize_from(s, levels[best], before)
+    finalize(s, levels[best])
 }

@@ -86,14 +86,14 @@ below c =
     let g = a .before .before .before .before .args in
     omega (arith, number a, number-within (g .s) (g .levels .now) (g .n) (bestOf (changeOf (g .s) (g .levels .now)) (g .n)) (best-means (changeOf (g .s) (g .levels .now)) (g .n)), c .if2 .left)
 
-mul-finalize-from : tie.Need-mul-finalize-from Inv-loop μ-loop
-mul-finalize-from c = search (needs, below c)
+mul-finalize : tie.Need-mul-finalize Inv-loop μ-loop
+mul-finalize c = search (needs, below c)
 
-shared-slice-read-finalize-from : tie.Need-shared-slice-read-finalize-from Inv-loop μ-loop
-shared-slice-read-finalize-from c = search (needs, below (c .before))
+shared-slice-read-finalize : tie.Need-shared-slice-read-finalize Inv-loop μ-loop
+shared-slice-read-finalize c = search (needs, below (c .before))
 
-finalize-from-requires : tie.Need-finalize-from-requires Inv-loop μ-loop
-finalize-from-requires c κs = search needs
+finalize-requires : tie.Need-finalize-requires Inv-loop μ-loop
+finalize-requires c κs = search needs
 
 returns-2 : tie.Need-returns-2 Inv-loop μ-loop
 unfolding swept
@@ -101,7 +101,7 @@ returns-2 c =
     let a = c .before .before .before in
     let s = a .before .before .before .before in
     let g = s .args in
-    c .finalize-from .ensures
+    c .finalize .ensures
     ∙ ap (λ (k : ℕ). finalized (g .s) (level (g .levels .now) k)) (number a)
     ∙ sym (swept-some (g .s) (g .levels .now) (g .n) (bestOf (changeOf (g .s) (g .levels .now)) (g .n)) (λ z. c .before .before .if2 .left (number a ∙ z)))
 
@@ -122,7 +122,7 @@ sweep-spec =
     shared-slice-read-no-score
     no-score-requires
     returns
-    mul-finalize-from
-    shared-slice-read-finalize-from
-    finalize-from-requires
+    mul-finalize
+    shared-slice-read-finalize
+    finalize-requires
     returns-2)
