@@ -10,6 +10,7 @@ struct Timespec {
 
 unsafe extern "C" {
     fn clock_gettime(clock: i32, time: *mut Timespec) -> i32;
+    fn getppid() -> i32;
 }
 
 /// The time that this thread has run, in nanoseconds (CLOCK_THREAD_CPUTIME_ID of Linux).
@@ -56,11 +57,35 @@ fn shown(nanos: f64) -> String {
     }
 }
 
-/// The program: ROUNDS [NAME-PART].
+/// For `bench/run --instructions`: a mark before and after one run of each side, at which the emulator prints how far it has counted.
+fn counted(entries: impl Iterator<Item = Entry>) -> bool {
+    let mark = || unsafe {
+        getppid();
+    };
+    let mut equal = true;
+    for mut e in entries {
+        // once before, for what is set up at the first call
+        let warm = (e.ours)() == (e.rust)();
+        mark();
+        let a = (e.ours)();
+        mark();
+        let b = (e.rust)();
+        mark();
+        println!("{}\t{}", e.units, e.name);
+        equal &= warm && a == b;
+    }
+    equal
+}
+
+/// The program: ROUNDS [NAME-PART]. No rounds: instructions are counted, and nothing is timed.
 pub fn main(entries: Vec<Entry>) {
     let args: Vec<String> = std::env::args().skip(1).collect();
     let rounds: usize = args[0].parse().expect("a number of rounds");
     let part = args.get(1).map(String::as_str).unwrap_or("");
+    if rounds == 0 {
+        let equal = counted(entries.into_iter().filter(|e| e.name.contains(part)));
+        std::process::exit(if equal { 0 } else { 1 });
+    }
     println!("{:44} {:>12} {:>12} {:>7}", "medians, for one call or pixel", "ours", "Rust", "ratio");
     let mut different = 0;
     let mut sized: Vec<(String, String, f64, f64)> = Vec::new();

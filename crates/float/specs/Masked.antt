@@ -14,19 +14,12 @@ use lib.Ieee.Exact.{HasValue, odd-sign, units-val}
 use lib.Ieee.Fits.{fits-widens}
 use lib.Ieee.Nearest.{closest}
 use Rattle.float.specs.Narrowed.{narrowed}
+use Rattle.float.specs.Shortened.{masked, Plain}
 use Rattle.float.specs.Within.{number}
 use Rattle.float.specs.NarrowLaws.{narrowed-fits, narrowed-no-nan}
 use Rattle.float.specs.Rounding.{closest-div, closest-more}
 use Rattle.float.specs.Held.{value-unique}
 use Rattle.float.specs.Narrowing.{between, two-shifts, of64, mid, normal, normal-le, normal-ge}
-
--- the last 29 digits, rounded off and left 0
-abbrev pub masked : ℕ → ℕ
-masked b = (b + 0x0fff_ffff + b / 0x2000_0000 % 2) / 0x2000_0000 * 0x2000_0000
-
--- 0, or from f32's normal range up to below 2
-abbrev pub Plain : ℕ → Type 0
-Plain b = (b ≡ 0) ⊎ ((0x3810_0000_0000_0000 ≤ b) × (b < 0x4000_0000_0000_0000))
 
 -- a value in smaller units
 scaled : (x : Float) (s : Bool) (a c w : ℕ) → HasValue x s a c → HasValue x s (a * w) (c * w)

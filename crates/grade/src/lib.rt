@@ -8,7 +8,7 @@ ghost use lib.Ieee.{binary64, toBits};
 ghost use Rattle.float.specs.Within.{number};
 ghost use Rattle.float.specs.Clamped.{clamped};
 ghost use Rattle.float.specs.Narrowed.{narrowed};
-ghost use Rattle.float.specs.Masked.{Plain};
+ghost use Rattle.float.specs.Shortened.{Plain};
 ghost use Rattle.grade.specs.Finalize.{
   errorBefore,
   colourOf,
