@@ -1,12 +1,10 @@
 // Scores from sums alone: what drawing a shape over the canvas changes, at one opacity or at the best of some levels.
 ghost use mathlib.Core.Path.{_≡_};
-ghost use Prim.Native.Nat.{_<_, _≤_};
-ghost use lib.ListN.{length};
+ghost use Prim.Native.Nat.{_<_};
 ghost use mathlib.Core.Bool.{true};
 ghost use lib.Dec.{T};
 ghost use lib.Ieee.{binary64, toBits};
 ghost use Rattle.float.specs.Within.{number};
-ghost use Rattle.float.specs.Clamped.{clamped};
 ghost use Rattle.float.specs.Narrowed.{narrowed};
 ghost use Rattle.float.specs.Shortened.{Plain};
 ghost use Rattle.grade.specs.Finalize.{
@@ -26,7 +24,6 @@ ghost use Rattle.grade.specs.Finalize.{
   NoScoreSays,
   FinalizeSays,
 };
-ghost use Rattle.grade.specs.Swept.{SweepSays};
 use sums::ShapeSums;
 
 pub mod levels;
@@ -165,14 +162,6 @@ fn wanted_at(s: ShapeSums, ch: usize, m: f64, denom: f64) -> f64
     let t = s.s_t;
     let c = s.s_c;
     wanted(t[ch], c[ch], m, denom)
-}
-
-// Of a number the colour is a number, so that it is widened without a test.
-fn known_colour(q: f64) -> f64
-    requires { ⌜ T (number q) ⌝ }
-    ensures { λ r. ⌜ r ≡ narrowed (clamped q) ⌝ }
-{
-    float::widen_number(float::narrow01(q))
 }
 
 // An f32 has as many digits for q as it has for any number: q is 0, or not below f32's normal range.
@@ -338,82 +327,4 @@ fn finalize_any(s: ShapeSums, opacity: f32, before: f64) -> Score
         green: green,
         blue: blue,
     }
-}
-
-// The change alone: a number comes back in a register, a score through memory.
-fn change_any(s: ShapeSums, opacity: f32, before: f64) -> f32
-    requires { ⌜ before ≡ overChannels (beforeAt s) ⌝ }
-    ensures { λ r. ⌜ r ≡ finalized s opacity .change ⌝ }
-{
-    let count = s.count;
-    if count == 0 {
-        return 0.0;
-    }
-    let m = rest_of(opacity);
-    let a = float::widen(opacity);
-    let n = count as f64;
-    let red = colour_at(s, 0, a, m, n);
-    let green = colour_at(s, 1, a, m, n);
-    let blue = colour_at(s, 2, a, m, n);
-    let after = all_after(s, a, m, n, red, green, blue);
-    float::narrow(after - before)
-}
-
-// The same for the sweep. Where the sum of the three colours before they are held to 0..1 is a number, so are they: no colour is looked at
-// for a NaN then.
-fn change_from(s: ShapeSums, opacity: f32, before: f64) -> f32
-    requires { ⌜ before ≡ overChannels (beforeAt s) ⌝ }
-    ensures { λ r. ⌜ r ≡ finalized s opacity .change ⌝ }
-{
-    let count = s.count;
-    if count == 0 {
-        return 0.0;
-    }
-    let m = rest_of(opacity);
-    let a = float::widen(opacity);
-    let n = count as f64;
-    let denom = a * n;
-    if denom > 0.0 {
-        let red = wanted_at(s, 0, m, denom);
-        let green = wanted_at(s, 1, m, denom);
-        let blue = wanted_at(s, 2, m, denom);
-        let sum = red + green + blue;
-        if sum == sum {
-            let after = all_wide(
-                s,
-                a,
-                m,
-                n,
-                known_colour(red),
-                known_colour(green),
-                known_colour(blue),
-            );
-            return float::narrow(after - before);
-        }
-    }
-    change_any(s, opacity, before)
-}
-
-// The first of the first n levels with the strictly smallest change. The lowest change so far starts at infinity, so
-// that a NaN is never taken. The score is worked out for the best level alone; n is no level.
-pub fn sweep(s: ShapeSums, levels: &[f32], n: usize) -> Score
-    requires { ⌜ (1 ≤ n) × (n ≤ length (now levels)) ⌝ }
-    ensures { λ r. ⌜ SweepSays s (now (levels .entry)) n r ⌝ }
-{
-    let before = all_before(s);
-    let mut best = n;
-    let mut lowest = 1.0 / 0.0;
-    let mut i = 0;
-    while i < n {
-        let change = change_from(s, levels[i], before);
-        if change < lowest {
-            lowest = change;
-            best = i;
-        }
-        i += 1;
-    }
-    if best == n {
-        return no_score(levels[0], s.count);
-    }
-    finalize(s, levels[best])
 }

@@ -7,7 +7,6 @@ ghost use Rattle.score.specs.declared.Request.the-variants.{Opacity};
 ghost use Rattle.score.specs.Scoring.{
   badCount,
   scoreAt,
-  noneCollected,
   CollectSpanSumsSays,
   CollectPointSumsSays,
   CollectCircleSumsSays,
@@ -30,7 +29,7 @@ fn score_at(s: ShapeSums, request: Request, levels: &[f32]) -> Score
 {
     match request {
         Request::Opacity(a) => grade::finalize(s, a),
-        Request::Levels(n) => grade::sweep(s, levels, n),
+        Request::Levels(n) => grade::sweeps::sweep(s, levels, n),
     }
 }
 
@@ -227,28 +226,6 @@ pub fn triangle_point_score(
     tested_point_score(kind, request, levels, w, h, target, canvas)
 }
 
-// Refused: no sums.
-fn no_sums(no: u8) -> Collected
-    ensures { λ r. ⌜ r ≡ noneCollected no ⌝ }
-{
-    let sums = ShapeSums::new();
-    Collected {
-        sums: sums,
-        refused: no,
-    }
-}
-
-// What a call answers, taken apart: else the answer's place is lent to that call, and every other way to it goes through memory too.
-fn apart(c: Collected) -> Collected
-    ensures { λ r. ⌜ r ≡ c ⌝ }
-{
-    let sums = c.sums;
-    Collected {
-        sums: sums,
-        refused: c.refused,
-    }
-}
-
 // The sums of a shape from a table, for sweeps and scores at several opacities. As for a score the tests come in one go; there is no
 // opacity and no level list to test, so 0 and 64 stand for them.
 pub fn collect_span_sums(kind: Kind, w: usize, h: usize, table: &[f64]) -> Collected
@@ -259,7 +236,7 @@ pub fn collect_span_sums(kind: Kind, w: usize, h: usize, table: &[f64]) -> Colle
         let top = rows.top;
         let bottom = rows.bottom;
         if bottom <= top {
-            return no_sums(0);
+            return crate::no_sums(0);
         }
         let left = cover::stamps::first_column(kind, w);
         if (bottom - top <= 8) & (left < w) {
@@ -278,7 +255,7 @@ pub fn collect_span_sums(kind: Kind, w: usize, h: usize, table: &[f64]) -> Colle
             refused: 0,
         };
     }
-    apart(tested_span_sums(kind, w, h, table))
+    crate::apart(tested_span_sums(kind, w, h, table))
 }
 
 // The same with the tests in order.
@@ -287,7 +264,7 @@ fn tested_span_sums(kind: Kind, w: usize, h: usize, table: &[f64]) -> Collected
 {
     let no = crate::tests::span_sums_refusal(kind, w, h, table);
     if no != 0 {
-        return no_sums(no);
+        return crate::no_sums(no);
     }
     let sums = gather::spans::span_sums(kind, w, h, table);
     Collected {
@@ -301,7 +278,7 @@ fn tested_point_sums(kind: Kind, w: usize, h: usize, target: &[f32], canvas: &[f
 {
     let no = crate::tests::point_sums_refusal(kind, w, h, target, canvas);
     if no != 0 {
-        return no_sums(no);
+        return crate::no_sums(no);
     }
     let sums = gather::points::point_sums(kind, w, h, target, canvas);
     Collected {
@@ -328,7 +305,7 @@ pub fn collect_circle_sums(
         let top = rows.top;
         let bottom = rows.bottom;
         if bottom <= top {
-            return no_sums(0);
+            return crate::no_sums(0);
         }
         let left = cover::stamps::first_column(kind, w);
         if (bottom - top <= 8) & (left < w) {
@@ -354,7 +331,7 @@ pub fn collect_circle_sums(
             refused: 0,
         };
     }
-    apart(tested_point_sums(kind, w, h, target, canvas))
+    crate::apart(tested_point_sums(kind, w, h, target, canvas))
 }
 
 // The same of a triangle.
@@ -378,7 +355,7 @@ pub fn collect_triangle_sums(
         let top = rows.top;
         let bottom = rows.bottom;
         if bottom <= top {
-            return no_sums(0);
+            return crate::no_sums(0);
         }
         let left = cover::stamps::first_column(kind, w);
         if (bottom - top <= 8) & (left < w) {
@@ -404,5 +381,5 @@ pub fn collect_triangle_sums(
             refused: 0,
         };
     }
-    apart(tested_point_sums(kind, w, h, target, canvas))
+    crate::apart(tested_point_sums(kind, w, h, target, canvas))
 }

@@ -8,6 +8,23 @@ use Rattle.grade.proofs.plain_score.Tie as tie
 abbrev start : tie.After-narrow → tie.Start
 start c = c .before .before .before .before .before .before .before
 
+returns : tie.Need-returns
+unfolding ofBits
+returns c =
+    let done = c .before .before .before in
+    let s = start done in
+    let x = s .args in
+    let third = done .before in
+    let second = third .before in
+    let first = second .before in
+    let p = s .pre in
+    let o = p .1 .1 .1 .0 in
+    let n = p .1 .1 .1 .1 .0 in
+    let k = p .1 .1 .1 .1 .1 .0 in
+    finalized-steps (x .s) (x .opacity) (x .a) _ (x .before) (done .narrow .result) (o .0) (x .red) (x .green) (x .blue) (p .1 .1 .0) k
+    (summed-steps (x .s) (x .a) (x .m) (x .n) (o .1) n (x .t0) (x .t1) (x .t2) (x .c0) (x .c1) (x .c2) (x .red) (x .green) (x .blue) _ _ _ (p .1 .0) k
+    (first .error-after .ensures) (second .error-after2 .ensures) (third .error-after3 .ensures)) (p .0) (done .narrow .ensures)
+
 array-read-error-after : tie.Need-array-read-error-after
 array-read-error-after c = search needs
 
@@ -55,23 +72,6 @@ float-to-float-t46 c = let s = start (c .before .before) in colour-held (s .args
 
 float-to-float-t47 : tie.Need-float-to-float-t47
 float-to-float-t47 c = let s = start (c .before .before .before) in colour-held (s .args .s) (s .args .a) (s .args .blue) 2 (s .pre .1 .1 .1 .1 .1 .0 .2) (s .pre .1 .1 .1 .1 .1 .1 .2)
-
-returns : tie.Need-returns
-unfolding ofBits
-returns c =
-    let done = c .before .before .before in
-    let s = start done in
-    let x = s .args in
-    let third = done .before in
-    let second = third .before in
-    let first = second .before in
-    let p = s .pre in
-    let o = p .1 .1 .1 .0 in
-    let n = p .1 .1 .1 .1 .0 in
-    let k = p .1 .1 .1 .1 .1 .0 in
-    finalized-steps (x .s) (x .opacity) (x .a) _ (x .before) (done .narrow .result) (o .0) (x .red) (x .green) (x .blue) (p .1 .1 .0) k
-    (summed-steps (x .s) (x .a) (x .m) (x .n) (o .1) n (x .t0) (x .t1) (x .t2) (x .c0) (x .c1) (x .c2) (x .red) (x .green) (x .blue) _ _ _ (p .1 .0) k
-    (first .error-after .ensures) (second .error-after2 .ensures) (third .error-after3 .ensures)) (p .0) (done .narrow .ensures)
 
 pub plain-score-spec : {M : Type 1} → statement M
 plain-score-spec =

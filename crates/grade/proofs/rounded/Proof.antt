@@ -15,6 +15,9 @@ under c = plain-under (toBits binary64 (c .args .q)) (c .pre .1)
 held : (c : tie.Start) → T (fits binary64 (c .args .q))
 held c = true-is (fits binary64 (c .args .q)) (c .good .0 .1)
 
+returns : tie.Need-returns
+returns c = masked-is-narrowed (c .args .q) (held c) (c .pre .1)
+
 float-to-bits-b : tie.Need-float-to-bits-b
 float-to-bits-b c = search needs
 
@@ -29,9 +32,6 @@ mul-result c = omega (arith, under c)
 
 float-from-bits-result : tie.Need-float-from-bits-result
 float-from-bits-result c = masked-no-nan (c .args .q) (held c) (c .pre .0) (c .pre .1)
-
-returns : tie.Need-returns
-returns c = masked-is-narrowed (c .args .q) (held c) (c .pre .1)
 
 pub rounded-spec : {M : Type 1} → statement M
 rounded-spec =

@@ -1,4 +1,4 @@
--- `grade::change_any` meets its contract: it is the change of the score.
+-- `grade::sweeps::change_any` meets its contract: it is the change of the score.
 use mathlib.Core.Path.{_≡_, refl, sym, _∙_, ap}
 use Rattle.grade.specs.FinalizeLaws.{finalized-steps, finalized-none}
 use Rattle.grade.specs.Finalize.{rest, noScore}
@@ -6,8 +6,8 @@ use lib.Ieee.{ofBits}
 use Rattle.grade.specs.declared.Score.{Score}
 use native.Mathlib.Omega.{arith}
 use borrow.Author.Needs.{needs}
-use Rattle.grade.proofs.change_any.Statement.{statement}
-use Rattle.grade.proofs.change_any.Tie as tie
+use Rattle.grade.proofs.sweeps.change_any.Statement.{statement}
+use Rattle.grade.proofs.sweeps.change_any.Tie as tie
 
 returns : tie.Need-returns
 unfolding ofBits noScore

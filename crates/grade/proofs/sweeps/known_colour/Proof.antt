@@ -1,9 +1,9 @@
--- `grade::known_colour` meets its contract: the colour of a number is a number.
+-- `grade::sweeps::known_colour` meets its contract: the colour of a number is a number.
 use mathlib.Core.Path.{_∙_}
 use borrow.Author.Needs.{needs}
 use Rattle.grade.specs.FinalizeLaws.{known-number}
-use Rattle.grade.proofs.known_colour.Statement.{statement}
-use Rattle.grade.proofs.known_colour.Tie as tie
+use Rattle.grade.proofs.sweeps.known_colour.Statement.{statement}
+use Rattle.grade.proofs.sweeps.known_colour.Tie as tie
 
 narrow01-requires : tie.Need-narrow01-requires
 narrow01-requires c κs = search needs

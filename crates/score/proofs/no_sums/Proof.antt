@@ -1,8 +1,8 @@
--- `score::calls::no_sums` meets its contract: the number, and no sums.
+-- `score::no_sums` meets its contract: the number, and no sums.
 use Rattle.score.specs.CallLaws.{none-collected}
 use borrow.Author.Needs.{needs}
-use Rattle.score.proofs.calls.no_sums.Statement.{statement}
-use Rattle.score.proofs.calls.no_sums.Tie as tie
+use Rattle.score.proofs.no_sums.Statement.{statement}
+use Rattle.score.proofs.no_sums.Tie as tie
 
 new-requires : tie.Need-new-requires
 new-requires c κs = search needs

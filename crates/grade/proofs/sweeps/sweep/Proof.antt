@@ -1,4 +1,4 @@
--- `grade::sweep` meets its contract. The loop carries the best level's number so far, or n, and its change, or infinity.
+-- `grade::sweeps::sweep` meets its contract. The loop carries the best level's number so far, or n, and its change, or infinity.
 use mathlib.Core.Path.{_≡_, refl, sym, _∙_, ap}
 use mathlib.Core.Logic.{⊎-elim}
 use Prim.Native.Nat.{ℕ, _+_, _≤_, _<_, _-_}
@@ -9,8 +9,8 @@ use Rattle.grade.specs.SweepLaws.{best-means, bestOf-taken, bestOf-kept,
 use Rattle.grade.specs.Swept.{level, changeOf, sweptAt, swept}
 use borrow.Author.Needs.{needs}
 use native.Mathlib.Omega.{arith}
-use Rattle.grade.proofs.sweep.Statement.{statement}
-use Rattle.grade.proofs.sweep.Tie as tie
+use Rattle.grade.proofs.sweeps.sweep.Statement.{statement}
+use Rattle.grade.proofs.sweeps.sweep.Tie as tie
 
 abbrev Inv-loop : tie.InvT-loop
 Inv-loop s levels n before best₀ lowest₀ i₀ best lowest i =

@@ -1,4 +1,4 @@
--- `grade::change_from` meets its contract: it is the change of the score; colours whose sum is a number are numbers.
+-- `grade::sweeps::change_from` meets its contract: it is the change of the score; colours whose sum is a number are numbers.
 use borrow.Author.Needs.{needs}
 use mathlib.Core.Path.{_≡_, refl, sym, _∙_, ap}
 use native.Mathlib.Omega.{arith}
@@ -13,8 +13,8 @@ use Rattle.float.specs.MarksLaws.{addends}
 use Rattle.grade.specs.declared.Score.{Score}
 use Rattle.grade.specs.Finalize.{rest, noScore, countOf, wantedAt, colourAt}
 use Rattle.grade.specs.FinalizeLaws.{known-step, finalized-steps, finalized-none}
-use Rattle.grade.proofs.change_from.Statement.{statement}
-use Rattle.grade.proofs.change_from.Tie as tie
+use Rattle.grade.proofs.sweeps.change_from.Statement.{statement}
+use Rattle.grade.proofs.sweeps.change_from.Tie as tie
 
 returns : tie.Need-returns
 unfolding ofBits noScore
