@@ -14,6 +14,13 @@ module _ (c : tie.After-shared-slice-known) where
       let a = s .args in
       run-in (a .w) (a .left) (a .y) (length (a .table .now)) (a .row) (s .pre .1) (s .pre .0 .0) (s .pre .0 .1)
 
+returns : tie.Need-returns
+returns c =
+    let k = c .before in
+    let s = k .before in
+    let a = s .args in
+    c .add-span .ensures ∙ sym (row-added (a .w) (a .table .now) (a .left) (a .y) (a .row) (a .s) (s .pre .0 .0) (s .pre .0 .1) (run k .fits))
+
 cast-first : tie.Need-cast-first
 cast-first c = omega (arith, run c .some)
 
@@ -39,13 +46,6 @@ add-span-requires c κs =
       p .1 .lent (λ z. omega (arith, p .0 .0, z)),
       omega (arith, r .few, p .0 .4),
     )
-
-returns : tie.Need-returns
-returns c =
-    let k = c .before in
-    let s = k .before in
-    let a = s .args in
-    c .add-span .ensures ∙ sym (row-added (a .w) (a .table .now) (a .left) (a .y) (a .row) (a .s) (s .pre .0 .0) (s .pre .0 .1) (run k .fits))
 
 pub add-stamp-row-spec : {M : Type 1} → statement M
 add-stamp-row-spec =
