@@ -1,10 +1,12 @@
 // Blending in place: the same mixture for pixels one after another.
+#![tactic(auto)]
+
 ghost use Rattle.std.specs.Prelude.{◌≡◌, ◌*◌, length};
 ghost use Rattle.laws.specs.F32.{◌⊞◌, ◌⊠◌};
 ghost use Rattle.brush.specs.Brushes.{brushed, BrushOfSays, BlendRunSays};
 
 // What an opacity and a colour come to, the same for every pixel: `keep` times the old value is kept, and the rest is added.
-#[derive(Drop)]
+#[derive(Clone, Copy)]
 pub struct Brush {
     pub keep: f32,
     pub red: f32,

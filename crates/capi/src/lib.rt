@@ -2,6 +2,8 @@
 // row without a covered pixel is -9. Functions on lent slices stand in the modules; each answers the refusal's number, or
 // `SillbadgerAnswer` where more comes back. Names start with sillbadger_. What only tests call is exported by the crates
 // `probe_NAME`.
+#![tactic(auto)]
+
 ghost use Rattle.std.specs.Prelude.{◌≡◌, pos, neg_ℤ};
 ghost use Rattle.cover.specs.Cover.{count, row_ends, refusal_of};
 ghost use Rattle.capi.specs.Answers.{refused_by, shapeless};
@@ -31,7 +33,7 @@ pub mod tables;
 // What a call answers. A refused call has its number, and all else is 0; a call that is done has 0, and what it works
 // out: all that it does not work out is 0.
 #[repr(C)]
-#[derive(Drop)]
+#[derive(Clone, Copy)]
 pub struct SillbadgerAnswer {
     pub refusal: u32,
     pub count: u32,

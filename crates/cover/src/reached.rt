@@ -7,7 +7,7 @@ ghost use Rattle.cover.specs.ReachRows.{rows_of, turned, beside, ReachRowsSays};
 use crate::{Kind, row_reach};
 
 // top <= y < bottom
-#[derive(Drop)]
+#[derive(Clone, Copy)]
 pub struct Rows {
     pub top: usize,
     pub bottom: usize,

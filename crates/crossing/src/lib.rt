@@ -1,4 +1,6 @@
 // How shapes cross the C border: plain slices of numbers are read as shapes.
+#![tactic(auto)]
+
 ghost use Rattle.std.specs.Prelude.{◌≡◌, ◌≤◌, length};
 ghost use Rattle.crossing.specs.Outlines.{sized, wanted, kind_sized, OutlineSays};
 
@@ -7,7 +9,7 @@ use cover::Kind;
 pub mod lists;
 
 // A shape by its coordinates, or nothing that is a shape.
-#[derive(Drop)]
+#[derive(Clone, Copy)]
 pub enum Outlined {
     Known(Kind),
     Unknown,

@@ -1,11 +1,13 @@
 // The demands, as theorems in specs/. The one function here shows that the theorem on paint calls meets the code.
+#![tactic(auto)]
+
 ghost use Rattle.std.specs.Prelude.{◌≡◌, length};
 ghost use Rattle.demands.specs.PaintCalls.{CallSays, Kept, TwoCallsSays};
 
 use cover::Kind;
 
 // A paint call: shape, opacity, colour, and its own sizes.
-#[derive(Drop)]
+#[derive(Clone, Copy)]
 pub struct Call {
     pub kind: Kind,
     pub opacity: f32,
@@ -17,7 +19,7 @@ pub struct Call {
 }
 
 // What two paint calls and a build answered.
-#[derive(Drop)]
+#[derive(Clone, Copy)]
 pub struct Numbers {
     pub first: u8,
     pub second: u8,

@@ -1,5 +1,7 @@
 // Numbers of pictures and tables, for the programs that run figures: numbers to begin with, how many differ, and how they are written.
 // What is written is compared with the programs' files `stdout`; no contract can say it.
+#![tactic(auto)]
+
 ghost use Rattle.figures.specs.Figures.{SlopeSays, DifferingSays};
 
 use sums::ShapeSums;

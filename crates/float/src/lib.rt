@@ -1,4 +1,6 @@
 // Floats: f64 to f32 and back, bit patterns for every float, the test for 0..1 and the clamp.
+#![tactic(auto)]
+
 ghost use Rattle.std.specs.Prelude.{◌≡◌, ◌+◌, ◌-◌, ◌^◌, ◌<◌, ◌≤◌, T, if◌then◌else◌, nat_lt};
 ghost use Rattle.std.specs.Float.Ieee.Nearest.{closest};
 ghost use Rattle.float.specs.Narrowed.{NarrowSays, NarrowBitsSays};

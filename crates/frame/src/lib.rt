@@ -1,4 +1,6 @@
 // Frames, which are requests as bytes, and answers, apart from the state of any program.
+#![tactic(auto)]
+
 ghost use Rattle.std.specs.Prelude.{◌≡◌, [], ◌∷◌, ◌++◌, ◌+◌, ◌%◌, ◌<◌, ◌≤◌, length, get_or, take, drop, replicate};
 ghost use Rattle.lines.specs.Lines.{WriteLineSays};
 ghost use Rattle.frame.specs.Frames.{DecodeSays, ReadFrameSays, ReadLineSays, unread, big};
@@ -11,7 +13,7 @@ use lines::{Digits, Line, MALFORMED};
 // ---- frames
 
 // A decoded frame: a request, or a refusal number.
-#[derive(Drop)]
+#[derive(Clone, Copy)]
 pub enum Frame {
     // w, h, r, g, b
     New(u8, u8, u8, u8, u8),
@@ -24,14 +26,14 @@ pub enum Frame {
 }
 
 // A decoded frame with its bytes.
-#[derive(Drop)]
+#[derive(Clone, Copy)]
 pub struct Read {
     pub frame: Frame,
     pub bytes: [u8; 50],
 }
 
 // A shape with the bits of its opacity.
-#[derive(Drop)]
+#[derive(Clone, Copy)]
 enum Shape {
     Of(Kind, u32),
     Unknown,
@@ -237,7 +239,7 @@ pub fn read_line(line: Line, text: &[u8]) -> Read
 // ---- answers
 
 // What a score answers; floats as their bits.
-#[derive(Drop)]
+#[derive(Clone, Copy)]
 pub struct Values {
     pub count: u32,
     pub change: u32,
@@ -247,7 +249,7 @@ pub struct Values {
 }
 
 // What a line is answered.
-#[derive(Drop)]
+#[derive(Clone, Copy)]
 pub enum Answer {
     // 81: a new picture
     Made,

@@ -15,7 +15,7 @@ use sums::ShapeSums;
 
 // The sums in the order that the compiler pairs well: it adds green and blue of a pixel side by side in one register, and of red those that have
 // a factor of the canvas, and the two pictures' own. `finalize` reads green and blue as pairs too, as they were written.
-#[derive(Drop)]
+#[derive(Clone, Copy)]
 pub struct Paired {
     t1: f64,
     t2: f64,

@@ -1,4 +1,6 @@
 // Scores from sums alone: what drawing a shape over the canvas changes, at one opacity or at the best of some levels.
+#![tactic(auto)]
+
 ghost use Rattle.std.specs.Prelude.{◌≡◌, ◌<◌};
 ghost use Rattle.grade.specs.Finalize.{
   error_before,
@@ -25,7 +27,7 @@ pub mod sweeps;
 
 // A shape's score: the opacity it was scored at, its colour, how many pixels it covers, the change of the squared error. The change is known last,
 // and by itself: the four numbers before are written and read as one.
-#[derive(Drop)]
+#[derive(Clone, Copy)]
 pub struct Score {
     pub opacity: f32,
     pub red: f32,
@@ -36,7 +38,7 @@ pub struct Score {
 }
 
 // A score, or the number of the refusal.
-#[derive(Drop)]
+#[derive(Clone, Copy)]
 pub enum Scored {
     Done(Score),
     Refused(u8),

@@ -13,7 +13,7 @@ use crate::Score;
 use sums::ShapeSums;
 
 // What a score is worked out from, channel by channel: the sums of target and canvas, and the errors where nothing is drawn yet.
-#[derive(Drop)]
+#[derive(Clone, Copy)]
 pub(crate) struct Parts {
     t0: f64,
     t1: f64,

@@ -1,11 +1,13 @@
 // What the program holds between two frames, by value, and what a frame asks for. Apart from `session`, so that its edits are quick to refuse.
+#![tactic(auto)]
+
 ghost use Rattle.held.specs.Asking.{StartSays, AskSays};
 
 use cover::Kind;
 use frame::Frame;
 
 // The sizes of the picture, width 0 before there is one, and whether it was painted on.
-#[derive(Drop)]
+#[derive(Clone, Copy)]
 pub struct State {
     pub w: usize,
     pub h: usize,
@@ -13,7 +15,7 @@ pub struct State {
 }
 
 // What a frame asks for.
-#[derive(Drop)]
+#[derive(Clone, Copy)]
 pub enum Request {
     // w, h, r, g, b
     New(u8, u8, u8, u8, u8),
@@ -25,7 +27,7 @@ pub enum Request {
 }
 
 // A frame gives a request or a refusal number.
-#[derive(Drop)]
+#[derive(Clone, Copy)]
 pub enum Asked {
     Of(Request),
     Bad(u8),

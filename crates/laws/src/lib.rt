@@ -1,1 +1,2 @@
 // General laws, in specs/: signed numbers and lists. There is no code.
+#![tactic(auto)]

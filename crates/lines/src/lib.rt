@@ -1,4 +1,6 @@
 // Lines of hexadecimal digits, as they come in and as they go out. Nothing here knows what the bytes mean.
+#![tactic(auto)]
+
 ghost use Rattle.std.specs.Prelude.{◌≡◌, ◌+◌, ◌<◌, length};
 ghost use Rattle.lines.specs.Hex.{DecodeHexSays, digit};
 ghost use Rattle.lines.specs.Lines.{StartSays, FeedSays, LastSays, WriteLineSays, standing};
@@ -10,7 +12,7 @@ pub const MALFORMED: u8 = 8;
 // ---- digits
 
 // The bytes that a line spells: their count, or a refusal number.
-#[derive(Drop)]
+#[derive(Clone, Copy)]
 pub enum Digits {
     Bytes(usize),
     Bad(u8),
@@ -84,7 +86,7 @@ pub fn decode_hex(line: &[u8], out: &mut [u8]) -> Digits
 // ---- lines
 
 // A line as it comes in: how many bytes of it are held, whether it was longer than the room, whether its LF has come.
-#[derive(Drop)]
+#[derive(Clone, Copy)]
 pub struct Line {
     pub held: usize,
     pub over: bool,

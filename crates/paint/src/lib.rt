@@ -1,4 +1,6 @@
 // The paint call: a shape is blended into the picture, then the table is updated over the shape's row reach.
+#![tactic(auto)]
+
 ghost use Rattle.std.specs.Prelude.{◌≡◌, false, true, ◌*◌, length};
 ghost use Rattle.refusal.specs.Refusals.{Sized};
 ghost use Rattle.cover.specs.Cover.{bad_places, RowReachSays};

@@ -1,4 +1,6 @@
 // Pictures: fill, mean, total, and shapes blended into them.
+#![tactic(auto)]
+
 ghost use Rattle.std.specs.Prelude.{◌≡◌, cond, false, ◌&&◌, ◌||◌, [], ◌∷◌, ◌+◌, ◌*◌, ◌≤◌, length};
 ghost use Rattle.laws.specs.Answer.{answer};
 ghost use Rattle.laws.specs.Strokes.{RunsWithin};
@@ -18,20 +20,20 @@ use cover::reached::Rows;
 use tally::means::Summed;
 use tally::totals::Totalled;
 
-#[derive(Drop)]
+#[derive(Clone, Copy)]
 pub struct Colour {
     pub red: f32,
     pub green: f32,
     pub blue: f32,
 }
 
-#[derive(Drop)]
+#[derive(Clone, Copy)]
 pub enum Mean {
     Done(Colour),
     Refused(u8),
 }
 
-#[derive(Drop)]
+#[derive(Clone, Copy)]
 pub enum Total {
     Done(f64),
     Refused(u8),

@@ -7,7 +7,7 @@ ghost use Rattle.polygon.specs.Polygon.{at};
 ghost use Rattle.polygon.specs.Steps.{Placed, Kept, Inner, HalfPlane, Level, InnerOf, digits_of, turn_of, Cuts};
 
 // The columns from left up to right, without right. Numbers of 32 bits, here and in an edge: the compiler works out four rows at a time.
-#[derive(Drop)]
+#[derive(Clone, Copy)]
 pub(crate) struct Run {
     pub(crate) left: u32,
     pub(crate) right: u32,
@@ -16,7 +16,7 @@ pub(crate) struct Run {
 // What the rows need to know of an edge. In row y its number is start + step * y, and that number divided by the edge's height, rounded
 // down, is the column where the inner side begins, or the one past its end. A product with `times`, less its last `digits`, stands for the
 // division, up to the number `most`, whose quotient is past all columns.
-#[derive(Drop)]
+#[derive(Clone, Copy)]
 pub(crate) struct Edge {
     start: i32,
     step: i32,

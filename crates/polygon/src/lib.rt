@@ -1,5 +1,7 @@
 // The runs of a polygon's rows: document 01's triangles and quads. The rule is one over the number of corners; the code has four.
 // A row is the intersection of its edges' half planes, as in integral.rs, and is written once.
+#![tactic(auto)]
+
 ghost use Rattle.std.specs.Prelude.{◌≡◌, ◌<◌, ◌≤◌, ◌+◌, ◌*◌, ◌-ℤ◌, set};
 ghost use Rattle.laws.specs.Blank.{Blank};
 ghost use Rattle.refusal.specs.Refusals.{Sized};
@@ -12,7 +14,7 @@ mod edges;
 use edges::{Edge, Run, cut_row, edge_of};
 
 // The least and the greatest of a list, as the first and the last row of its corners.
-#[derive(Drop)]
+#[derive(Clone, Copy)]
 pub struct Extent {
     pub least: i32,
     pub greatest: i32,

@@ -1,5 +1,7 @@
 // Narrowing by value, exported for the comparison with the machine's cast: what bits a NaN has there is compiled, not proved.
 // Nothing that ships links this crate.
+#![tactic(auto)]
+
 ghost use Rattle.probe_float.specs.Probes.{ProbeNarrowSays};
 
 #[unsafe(no_mangle)]

@@ -1,4 +1,6 @@
 // Pictures by themselves, exported for the differential runs and the benchmark. Nothing that ships links this crate.
+#![tactic(auto)]
+
 ghost use Rattle.std.specs.Prelude.{◌≡◌, length};
 ghost use Rattle.cover.specs.Cover.{refusal_of};
 ghost use Rattle.probe_picture.specs.Probes.{
@@ -18,7 +20,7 @@ use crossing::Outlined;
 use picture::{Mean, Total};
 
 #[repr(C)]
-#[derive(Drop)]
+#[derive(Clone, Copy)]
 pub struct ProbedMean {
     pub number: u8,
     pub red: f32,
@@ -27,14 +29,14 @@ pub struct ProbedMean {
 }
 
 #[repr(C)]
-#[derive(Drop)]
+#[derive(Clone, Copy)]
 pub struct ProbedTotal {
     pub number: u8,
     pub total: f64,
 }
 
 #[repr(C)]
-#[derive(Drop)]
+#[derive(Clone, Copy)]
 pub struct ProbedReach {
     pub number: u8,
     pub first: i32,

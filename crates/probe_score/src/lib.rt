@@ -1,4 +1,6 @@
 // Scores by themselves, exported for the differential runs. Nothing that ships links this crate.
+#![tactic(auto)]
+
 ghost use Rattle.std.specs.Prelude.{◌≡◌};
 ghost use Rattle.probe_score.specs.Probes.{
   kind_of,
@@ -23,7 +25,7 @@ use score::{Collected, Request};
 use sums::ShapeSums;
 
 #[repr(C)]
-#[derive(Drop)]
+#[derive(Clone, Copy)]
 pub struct ProbedSums {
     pub s_t: [f64; 3],
     pub s_c: [f64; 3],
@@ -34,7 +36,7 @@ pub struct ProbedSums {
 }
 
 #[repr(C)]
-#[derive(Drop)]
+#[derive(Clone, Copy)]
 pub struct ProbedScore {
     pub opacity: f32,
     pub count: u32,
@@ -46,7 +48,7 @@ pub struct ProbedScore {
 
 // A score, or the number of the refusal and zeros. In a score's own order: what was written as a whole is read as a whole.
 #[repr(C)]
-#[derive(Drop)]
+#[derive(Clone, Copy)]
 pub struct ProbedAnswer {
     pub refused: u8,
     pub opacity: f32,
@@ -58,7 +60,7 @@ pub struct ProbedAnswer {
 }
 
 #[repr(C)]
-#[derive(Drop)]
+#[derive(Clone, Copy)]
 pub struct ProbedCollected {
     pub s_t: [f64; 3],
     pub s_c: [f64; 3],

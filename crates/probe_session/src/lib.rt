@@ -1,4 +1,6 @@
 // Frames in memory, exported for the benchmark and the differential runs. Nothing that ships links this crate.
+#![tactic(auto)]
+
 ghost use Rattle.session.specs.Held.{Holds};
 
 use frame::Answer;
@@ -7,7 +9,7 @@ use lines::{Line, MALFORMED};
 use session::Stepped;
 
 // The line as it comes in, the running state, and how much of the answers is written.
-#[derive(Drop)]
+#[derive(Clone, Copy)]
 struct Going {
     line: Line,
     state: State,

@@ -1,5 +1,7 @@
 // Exports for the differential runs and the benchmark: functions that are not part of the published C face.
 // Nothing that ships links this crate. Names start with probe_.
+#![tactic(auto)]
+
 ghost use Rattle.probe_whole.specs.Probes.{ProbeIsqrtI64Says, ProbeDivFloorI64Says, ProbeDivCeilI64Says};
 
 #[unsafe(no_mangle)]

@@ -1,4 +1,6 @@
 // Refinement: shapes of a list are tried against candidates, and leave for one that lowers the total.
+#![tactic(auto)]
+
 ghost use Rattle.std.specs.Prelude.{◌≡◌};
 ghost use Rattle.refine.specs.Answers.{told, refused_with, RefineShapesSays};
 
@@ -8,7 +10,7 @@ pub(crate) mod courses;
 pub(crate) mod tests;
 
 // What refinement answers. Refused: the number, the list as handed in, and all else 0.
-#[derive(Drop)]
+#[derive(Clone, Copy)]
 pub struct Refined {
     pub refusal: u8,
     pub shapes: Shapes,

@@ -1,4 +1,6 @@
 // Document 01's refusal numbers, and the tests of sizes and places that every entry point shares.
+#![tactic(auto)]
+
 ghost use Rattle.std.specs.Prelude.{◌≤◌};
 ghost use Rattle.refusal.specs.Refusals.{BadSizeSays, BadPlaceSays};
 ghost use Rattle.refusal.specs.Lengths.{BadPictureSays, BadTableSays};

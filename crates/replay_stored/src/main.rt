@@ -1,16 +1,18 @@
 // Runs through the Rust's stored answers (standard input, made by oracle/stored), on the whole-number functions and on covered pixels, and
 // says how many there are and how many of ours differ. A line that does not read as oracle/answers.rs writes it counts as a difference.
+#![tactic(auto)]
+
 use bytes::scan;
 use cover::{Counted, Ended, Kind};
 use libc::{STDIN_FILENO, STDOUT_FILENO};
 
-#[derive(Drop)]
+#[derive(Clone, Copy)]
 struct Tally {
     cases: u64,
     differences: u64,
 }
 
-#[derive(Drop)]
+#[derive(Clone, Copy)]
 enum Asked {
     Shape(Kind),
     Nothing,

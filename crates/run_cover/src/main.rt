@@ -1,5 +1,7 @@
 // Runs document 01's figures of the cover, its boundaries and some of our own. The stored output was worked out from the
 // rule itself, pixel by pixel.
+#![tactic(auto)]
+
 use cover::{Banded, Counted, Ended, Kind};
 
 fn refused(number: u8) {

@@ -1,4 +1,6 @@
 // Runs document 01's half widths, and those at the bounds of the radius. The stored output was worked out from the rule itself.
+#![tactic(auto)]
+
 ghost use Rattle.std.specs.Prelude.{nat_abs};
 ghost use Rattle.laws.specs.Bound.{Bounded};
 

@@ -1,4 +1,6 @@
 // Document 01's figures of narrowing, and what floats do at the ends of their ranges: each as patterns, so that signs of zero and NaNs are seen.
+#![tactic(auto)]
+
 fn bits(b: u64) {
     show::hex(b, 16);
 }

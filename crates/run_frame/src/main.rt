@@ -1,10 +1,12 @@
 // Reads every line of standard input, byte by byte, and writes what it decodes to; then inputs that end in other ways, then answers.
+#![tactic(auto)]
+
 use cover::Kind;
 use frame::{Answer, Frame, Read, Values};
 use libc::STDIN_FILENO;
 use lines::{Digits, Line};
 
-#[derive(Drop)]
+#[derive(Clone, Copy)]
 struct State {
     line: Line,
     end: bool,

@@ -1,9 +1,10 @@
 // Published IEEE 754 vectors (Berkeley TestFloat, data/ORIGIN.md), run and compared: a line for each file.
 // The vectors of narrowing and widening go through our functions, those of + - * / through the language's own operators.
 // A result that is a NaN is compared as "is a NaN": both sides are put into the one form that float::bits32 and bits64 give.
+#![tactic(auto)]
 
 // A line as far as it is read: the last three words before the one that is being read, and the counts so far.
-#[derive(Drop)]
+#[derive(Clone, Copy)]
 struct Reading {
     a: u64,
     b: u64,

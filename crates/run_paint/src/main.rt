@@ -1,4 +1,6 @@
 // The paint call run: pictures, the rows of the table that it redoes, refusals with several things wrong, and two calls beside a build afresh.
+#![tactic(auto)]
+
 use cover::Kind;
 use demands::Call;
 

@@ -1,5 +1,6 @@
 // Fill, mean, total and painting on small pictures, number for number, and the refusals of each, several wrong at once.
 // Painting goes through the probes, which have its tests.
+#![tactic(auto)]
 
 fn put(xs: &mut [f32], i: usize, x: f32) {
     if i < xs.len() {

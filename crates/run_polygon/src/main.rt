@@ -1,4 +1,6 @@
 // Runs fill_quad at document 01's figures, and at shapes that tell columns from rows. A row is written left..right.
+#![tactic(auto)]
+
 ghost use Rattle.refusal.specs.Refusals.{Sized};
 ghost use Rattle.polygon.specs.Polygon.{at};
 ghost use Rattle.polygon.specs.Steps.{Placed};

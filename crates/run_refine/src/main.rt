@@ -1,5 +1,7 @@
 // Runs refinement on small cases: lists, candidates and targets drawn from a seed. `oracle/refine.rs` has the same draws and works
 // the expected output out with the published Rust; refusals it takes from document 01.
+#![tactic(auto)]
+
 ghost use Rattle.std.specs.Prelude.{◌≡◌, ◌*◌, ◌<◌, ◌≤◌, length};
 
 use cover::Kind;

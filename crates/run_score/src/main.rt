@@ -1,4 +1,6 @@
 // Answers of the published Rust's `finalize`, which the definition meets too (grade/specs/FinalizeFigures): sums and opacity by their bits.
+#![tactic(auto)]
+
 use sums::ShapeSums;
 
 // 0.0 and 1.0 in each channel

@@ -3,7 +3,7 @@ use crate::answers::{answer, sums_answer};
 use cover::Kind;
 use score::Request;
 
-#[derive(Drop)]
+#[derive(Clone, Copy)]
 pub(crate) enum Call {
     Score(Request),
     Sums,

@@ -9,6 +9,8 @@
 //
 // LENT levels are lent, with BAD in place AT. Of the table NUMBERS are lent; or of the target, and OTHERS of the canvas. SHAPE is a name
 // and coordinates. A number behind x is a float's bits. A line that does not read so is a bad line.
+#![tactic(auto)]
+
 mod answers;
 mod calls;
 mod shapes;

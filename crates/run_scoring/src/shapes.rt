@@ -2,7 +2,7 @@
 use bytes::scan;
 use cover::Kind;
 
-#[derive(Drop)]
+#[derive(Clone, Copy)]
 pub(crate) enum Asked {
     Shape(Kind),
     Nothing,

@@ -1,4 +1,6 @@
 // Runs the stamps of circles and of corners among 64 pixels, and parts of stamps. The stored output was worked out from the rule itself, pixel by pixel.
+#![tactic(auto)]
+
 ghost use Rattle.std.specs.Prelude.{◌+◌, ◌≤◌, pos, ◌≤ℤ◌};
 ghost use Rattle.polygon.specs.Polygon.{at};
 ghost use Rattle.stamp.specs.Lanes.{Cornered};

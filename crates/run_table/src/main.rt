@@ -1,4 +1,6 @@
 // A small table's numbers, document 01's figures of an update, and the refusals of both calls, several wrong at once.
+#![tactic(auto)]
+
 use sums::ShapeSums;
 
 // What stands in a table before a call, to count what it writes.

@@ -1,4 +1,6 @@
 // Runs the whole-number functions at document 01's figures and at the ends of their types.
+#![tactic(auto)]
+
 fn division(a: i64, b: i64) {
     show::signed(a);
     show::text(b" / ");

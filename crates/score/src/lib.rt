@@ -1,4 +1,6 @@
 // Scores of shapes: the calls that test what is lent, take the sums over a shape's pixels, by spans or by points, and score.
+#![tactic(auto)]
+
 ghost use Rattle.std.specs.Prelude.{◌≡◌};
 ghost use Rattle.score.specs.Scoring.{none_collected};
 
@@ -8,14 +10,14 @@ pub mod calls;
 mod tests;
 
 // What a shape is scored at: one opacity, or the first of the lent levels, so many.
-#[derive(Drop)]
+#[derive(Clone, Copy)]
 pub enum Request {
     Opacity(f32),
     Levels(usize),
 }
 
 // Sums, with the number of the refusal behind them, 0 if there is none: so their parts lie as they were written, and are read as they lie.
-#[derive(Drop)]
+#[derive(Clone, Copy)]
 pub struct Collected {
     pub sums: ShapeSums,
     pub refused: u8,

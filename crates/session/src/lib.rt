@@ -1,4 +1,6 @@
 // The program's running state: one step for each request, on two pictures and a table that the caller lends.
+#![tactic(auto)]
+
 ghost use Rattle.std.specs.Prelude.{◌≡◌, ◌+◌, ◌≤◌, length, take, drop};
 ghost use Rattle.frame.specs.Frames.{new, row, score, paint};
 ghost use Rattle.frame.specs.declared.Answer.TheVariants.{Refused};
@@ -14,7 +16,7 @@ use lines::MALFORMED;
 
 mod sheet;
 
-#[derive(Drop)]
+#[derive(Clone, Copy)]
 pub struct Stepped {
     pub state: State,
     pub answer: Answer,

@@ -1,4 +1,6 @@
 // Shapes with their opacity and colour, lists of them by value, and candidates; what of them is within its range.
+#![tactic(auto)]
+
 ghost use Rattle.std.specs.Prelude.{◌≡◌, [], ◌∷◌, ◌<◌, ◌≤◌};
 ghost use Rattle.shapes.specs.Lists.{ExchangeSays};
 ghost use Rattle.shapes.specs.Ranges.{ranges_of, both, LookAtSays, LookThroughSays};
@@ -6,7 +8,7 @@ ghost use Rattle.shapes.specs.Ranges.{ranges_of, both, LookAtSays, LookThroughSa
 use cover::Kind;
 
 // A shape with its opacity and colour. It is read by its fields' names alone.
-#[derive(Drop)]
+#[derive(Clone, Copy)]
 pub struct Shape {
     pub kind: Kind,
     pub opacity: f32,
@@ -16,34 +18,34 @@ pub struct Shape {
 }
 
 // A list of shapes: the first `count` of the items.
-#[derive(Drop)]
+#[derive(Clone, Copy)]
 pub struct Shapes {
     pub items: [Shape; 64],
     pub count: usize,
 }
 
 // What a trial is offered.
-#[derive(Drop)]
+#[derive(Clone, Copy)]
 pub enum Candidate {
     Nothing,
     Some(Shape),
 }
 
-#[derive(Drop)]
+#[derive(Clone, Copy)]
 pub struct Slot {
     pub what: Candidate,
 }
 
 // The candidates of the trials: the first `count` of the slots. A large list: it stays in the function that has it, which
 // hands on one candidate at a time.
-#[derive(Drop)]
+#[derive(Clone, Copy)]
 pub struct Candidates {
     pub slots: [Slot; 1024],
     pub count: usize,
 }
 
 // What is within its range, of all shapes that were looked at.
-#[derive(Drop)]
+#[derive(Clone, Copy)]
 pub struct Ranges {
     pub places: bool,
     pub opacities: bool,

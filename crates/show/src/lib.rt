@@ -1,5 +1,7 @@
 // Writes to standard output, for the programs that run figures and vectors.
 // What a program writes is compared with its file `stdout`; no contract can say it.
+#![tactic(auto)]
+
 use libc::STDOUT_FILENO;
 
 pub fn text(t: &[u8]) {

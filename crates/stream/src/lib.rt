@@ -1,5 +1,7 @@
 // Frames from standard input, an answer to standard output for each line as soon as it has ended.
 // No contract can say what is read or written; what is proved is that the running state stays that of `session`.
+#![tactic(auto)]
+
 ghost use Rattle.std.specs.Prelude.{◌≡◌, length};
 ghost use Rattle.session.specs.Held.{Holds};
 
@@ -9,7 +11,7 @@ use libc::{STDIN_FILENO, STDOUT_FILENO};
 use lines::{Line, MALFORMED};
 
 // The line as it comes in, the running state, and whether there is more to do.
-#[derive(Drop)]
+#[derive(Clone, Copy)]
 struct Going {
     line: Line,
     state: State,
@@ -17,7 +19,7 @@ struct Going {
 }
 
 // The running state, and whether its answer could be written.
-#[derive(Drop)]
+#[derive(Clone, Copy)]
 struct Told {
     state: State,
     open: bool,

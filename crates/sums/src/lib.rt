@@ -1,8 +1,10 @@
 // The running sums of a score and of a row of the table: target, canvas, their squares and their products over some pixels.
+#![tactic(auto)]
+
 ghost use Rattle.std.specs.Prelude.{◌≡◌, ◌+◌, ◌<◌, ◌≤◌, ◌^◌};
 ghost use Rattle.sums.specs.Sums.{sum3, difference3, product3, pixel_sums, NewSays, PlusSays, MinusSays, PushSays, PushWideSays};
 
-#[derive(Drop)]
+#[derive(Clone, Copy)]
 pub struct ShapeSums {
     pub s_t: [f64; 3],
     pub s_t2: [f64; 3],

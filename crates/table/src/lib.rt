@@ -1,4 +1,6 @@
 // The table of prefix sums: for each row of a picture w + 1 places of fifteen sums, and what reads them.
+#![tactic(auto)]
+
 ghost use Rattle.std.specs.Prelude.{◌≡◌, true, false, ◌||◌, [], ◌∷◌, ℕ, ◌+◌, ◌-◌, ◌*◌, ◌≤◌, ◌<◌, ◌^◌, leb, ltb, length, get_or, pos};
 ghost use Rattle.std.specs.Float.{nan};
 ghost use Rattle.std.specs.Int.Signed.{le_z, lt_z};

@@ -4,7 +4,7 @@ ghost use Rattle.float.specs.Within.{all_within};
 ghost use Rattle.tally.specs.Tally.{ShareSays, SumsWithinSays, sums_to};
 
 // The three channels' sums.
-#[derive(Drop)]
+#[derive(Clone, Copy)]
 pub struct Sums {
     pub red: f64,
     pub green: f64,
@@ -12,7 +12,7 @@ pub struct Sums {
 }
 
 // The sums of a picture, or that a number of it is not within 0..1.
-#[derive(Drop)]
+#[derive(Clone, Copy)]
 pub enum Summed {
     Of(Sums),
     Beyond,

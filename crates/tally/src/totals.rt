@@ -5,7 +5,7 @@ ghost use Rattle.float.specs.Within.{within, all_within};
 ghost use Rattle.tally.specs.Tally.{SquaredAnySays, squared_difference, TotalWithinSays, total_to};
 
 // The total of two pictures, or that a number of one is not within 0..1.
-#[derive(Drop)]
+#[derive(Clone, Copy)]
 pub enum Totalled {
     Of(f64),
     Beyond,

@@ -1,5 +1,7 @@
 // A table of the shapes of a list, by which rows of pictures are drawn: the runs of shape i stand in column i, row y at y * 130, left
 // and right; its brush stands at i * 4. There is room for the shapes of a list and a candidate after them.
+#![tactic(auto)]
+
 ghost use Rattle.std.specs.Prelude.{◌≡◌, List, [], ◌∷◌, ℕ, ◌+◌, ◌*◌, ◌<◌, ◌≤◌, T, length, get_or};
 ghost use Rattle.std.specs.Float.{nan};
 ghost use Rattle.float.specs.Within.{all_within};

@@ -1,4 +1,6 @@
 // One trial: the rows that shape j and the candidate reach are drawn anew, and added up.
+#![tactic(auto)]
+
 ghost use Rattle.std.specs.Prelude.{◌≡◌, List, [], ◌∷◌, ◌++◌, ℕ, ◌+◌, ◌*◌, ◌<◌, ◌≤◌, T, Float, length, get_or};
 ghost use Rattle.std.specs.Float.{nan};
 ghost use Rattle.std.proofs.Math.Seq.{slice};
@@ -19,7 +21,7 @@ use shapes::{Candidate, Shape, Shapes};
 
 // How far refinement has come: the list, the place j of the next trial and the three counts of the answer; how many shapes the
 // first work picture has, and the total of the whole list.
-#[derive(Drop)]
+#[derive(Clone, Copy)]
 pub struct Course {
     pub list: Shapes,
     pub place: usize,

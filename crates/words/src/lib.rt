@@ -1,12 +1,14 @@
 // Numbers in lines of text, for the programs that replay stored answers: words parted by one space, each
 // a decimal number, with '-' before a negative one, or x and the hexadecimal digits of a pattern.
+#![tactic(auto)]
+
 ghost use Rattle.std.specs.Prelude.{◌≡◌, ◌≤◌};
 ghost use Rattle.words.specs.Words.{digit_of, digits, negated, ValueSays, NumbersSays, SignedSays, Signed32Says};
 
 use bytes::scan;
 
 // What a word says.
-#[derive(Drop)]
+#[derive(Clone, Copy)]
 pub enum Word {
     Number(u64),
     Other,

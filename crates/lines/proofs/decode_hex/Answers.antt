@@ -1,0 +1,35 @@
+use Prim.Native.Nat.{◌/◌}
+use mathlib.Core.Path.{refl}
+use native.Mathlib.Nat.{sub-zero}
+use native.Mathlib.Omega.{arith}
+use lib.ListN.{length, length-take}
+use borrow.Author.Rules.{rules}
+use Rattle.lines.specs.HexLaws.{decodes, spells-length, spells_digits}
+use Rattle.lines.specs.Hex.{DecodeHexSays}
+use Rattle.lines.proofs.decode_hex.Goals as goal
+
+-- `lines::decode_hex` meets its contract: each refusal because the characters that any bytes give are as many as two a byte, and digits.
+
+pub returns-then-n-eq0 : goal.returns-then-n-eq0
+returns-then-n-eq0 c = DecodeHexSays.refused (λ bytes s l. omega (arith, s.some, spells-length s)) refl refl
+
+pub returns-then-n-line : goal.returns-then-n-line
+returns-then-n-line c = DecodeHexSays.refused (λ bytes s l. omega (arith, spells-length s)) refl refl
+
+pub returns-then-out-n : goal.returns-then-out-n
+returns-then-out-n c = DecodeHexSays.refused (λ bytes s l. omega (arith, spells-length s)) refl refl
+
+pub fill-requires : goal.fill-requires
+fill-requires c = (simp length-take (omega arith), c.all_digits.ensures.yes c.if-all_digits.true)
+
+pub returns-then-all_digits : goal.returns-then-all_digits
+returns-then-all_digits c =
+    let a = c.args in
+    let f = c.fill in
+    decodes a.line.now a.out.now f.new.out _ (length a.line.now / 2) (simp sub-zero)
+    (omega (arith, simp length-take at f.auto.out)) (omega arith) (omega arith)
+    (λ k. (c.slice_known-then-all_digits-1.given k).fits)
+    f.ensures
+
+pub returns-else-all_digits : goal.returns-else-all_digits
+returns-else-all_digits c = DecodeHexSays.refused (λ bytes s l. c.all_digits.ensures.no c.if-all_digits.false (spells_digits s)) refl refl
