@@ -1,5 +1,5 @@
 -- Rules: the covered pixels of a tiny shape as a stamp: eight rows of eight pixels, as the binary digits of a number.
-use Rattle.std.specs.Prelude.{◌≡◌, Bool, ◌&&◌, ℕ, ◌+◌, ◌<◌, ltb, ℤ, pos, ◌≤ℤ◌, ◌<ℤ◌}
+use Rattle.std.specs.Prelude.{◌≡◌, ℕ, ◌+◌, ℤ, pos, ◌≤ℤ◌, ◌<ℤ◌}
 use Rattle.cover.specs.declared.reached.Rows.{Rows}
 use Rattle.polygon.specs.Polygon.{least_of, greatest_of}
 use Rattle.polygon.specs.OneRow.{four}
@@ -9,14 +9,10 @@ use Rattle.cover.specs.declared.Kind.{Kind}
 use Rattle.cover.specs.Cover.{covered}
 use Rattle.cover.specs.ReachRows.{rows_of, turned}
 
--- the covered pixels that a picture of w by h has
-abbrev pub seen : Kind → ℕ → ℕ → ℕ → ℕ → Bool
-seen kind w h x y = covered kind x y && (ltb x w && ltb y h)
-
--- the stamp's pixels are those, and none of them lies elsewhere
+-- the stamp's pixels are the covered ones, no covered pixel lies elsewhere, and all lie in the picture
 pub record Stamped (kind : Kind) (left top w h r : ℕ) : Type 0 where
-  pub is : r ≡ stamp_of (seen kind w h) left top
-  pub window : InWindow (seen kind w h) left top w h
+  pub is : r ≡ stamp_of (covered kind) left top
+  pub window : InWindow (covered kind) left top w h
 
 -- that no stamp is known; a shape that covers all 64 pixels has no other
 abbrev pub no_stamp : ℕ
@@ -28,16 +24,6 @@ StampSays kind left top w h r = (r ≡ no_stamp → ⊥) → Stamped kind left t
 -- the first column of the reach is the first row of the turned shape's
 abbrev pub FirstColumnSays : Kind → ℕ → ℕ → Type 0
 FirstColumnSays kind w r = r ≡ (rows_of (turned kind) w).top
-
--- of n rows the shape reaches some, from row `from` on
-pub record Started (kind : Kind) (from n : ℕ) : Type 0 where
-  pub first : from ≡ (rows_of kind n).top
-  pub some : from < (rows_of kind n).bottom
-
--- a stamp begins at the first column and row that the shape reaches
-pub record Begun (kind : Kind) (left top w h : ℕ) : Type 0 where
-  pub columns : Started (turned kind) left w
-  pub rows : Started kind top h
 
 -- rows first to last lie among eight from `from` on, and among n
 pub record Among (first last : ℤ) (from n : ℕ) : Type 0 where

@@ -1,10 +1,10 @@
 // The covered pixels of a tiny shape as the bits of one number: eight rows of eight pixels.
-ghost use Rattle.std.specs.Prelude.{◌≡◌, true, false, ◌≤◌, pos, ◌-ℤ◌, ◌≤ℤ◌};
+ghost use Rattle.std.specs.Prelude.{◌≡◌, true, false, ◌≤◌, pos, ◌+ℤ◌, ◌-ℤ◌, ◌<ℤ◌};
 ghost use Rattle.laws.specs.Bound.{Bounded};
 ghost use Rattle.refusal.specs.Refusals.{Sized};
 ghost use Rattle.cover.specs.declared.Kind.TheVariants.{Circle, Triangle, Quad};
 ghost use Rattle.cover.specs.Cover.{bad_places};
-ghost use Rattle.cover.specs.Stamps.{StampSays, FirstColumnSays, Begun, Among, Framed};
+ghost use Rattle.cover.specs.Stamps.{StampSays, FirstColumnSays, Among, Framed};
 
 use crate::Kind;
 use crate::reached::{rows_of, turned};
@@ -32,34 +32,27 @@ fn among(first: i32, last: i32, from: usize, n: usize) -> bool
     (low <= first) & (last - low <= 7) & (last < n as i32)
 }
 
-// How many columns, or rows, of a circle lie before the first that the picture has.
-fn cut_off(c: i32, r: i32, from: usize) -> u64
+// A circle's rows or columns begin at `from`, and end before n.
+fn begins(c: i32, r: i32, from: usize, n: usize) -> bool
     requires circle { Bounded 8191 c × Bounded 8191 r }
-    requires first { (from ≤ 255) × ((c -ℤ r) ≤ℤ pos from) }
-    ensures { pos result ≡ pos from -ℤ (c -ℤ r) }
+    requires places { (from ≤ 255) × (n ≤ 256) }
+    ensures { result ≡ true → (c -ℤ r ≡ pos from) × ((c +ℤ r) <ℤ pos n) }
 {
-    (from as i32 - (c - r)) as u64
+    let low = c - r;
+    (low <= from as i32) & (from as i32 <= low) & (c + r < n as i32)
 }
 
-// What the picture has of a circle of radius 1, 2 or 3. Circles that cross a border go the same way as those that do not.
+// A circle of radius 1, 2 or 3 that lies in the picture. Its first column and row are those of the stamp.
 pub fn circle_stamp(cx: i32, cy: i32, r: i32, left: usize, top: usize, w: usize, h: usize) -> u64
     requires sizes { Sized w h }
     requires places { bad_places (Circle cx cy r) ≡ false }
-    requires window { Begun (Circle cx cy r) left top w h }
+    requires window { (left ≤ 255) × (top ≤ 255) }
     ensures { StampSays (Circle cx cy r) left top w h result }
 {
-    if (r < 1) | (3 < r) {
-        return NO_STAMP;
+    if (1 <= r) & (r <= 3) & begins(cx, r, left, w) & begins(cy, r, top, h) {
+        return stamp::circle_stamp(r);
     }
-    let columns = rows_of(Kind::Circle(cy, cx, r), w);
-    let rows = rows_of(Kind::Circle(cx, cy, r), h);
-    stamp::cut(
-        stamp::circle_stamp(r),
-        cut_off(cx, r, left),
-        cut_off(cy, r, top),
-        (columns.bottom - left) as u64,
-        (rows.bottom - top) as u64,
-    )
+    NO_STAMP
 }
 
 // Four corners lie in the picture, among eight columns and eight rows.
@@ -138,7 +131,7 @@ pub fn triangle_stamp(
 ) -> u64
     requires sizes { Sized w h }
     requires places { bad_places (Triangle x0 y0 x1 y1 x2 y2) ≡ false }
-    requires window { Begun (Triangle x0 y0 x1 y1 x2 y2) left top w h }
+    requires window { (left ≤ 255) × (top ≤ 255) }
     ensures { StampSays (Triangle x0 y0 x1 y1 x2 y2) left top w h result }
 {
     if framed(x0, y0, x1, y1, x2, y2, x2, y2, left, top, w, h) {
@@ -164,7 +157,7 @@ fn quad_stamp(
 ) -> u64
     requires sizes { Sized w h }
     requires places { bad_places (Quad x0 y0 x1 y1 x2 y2 x3 y3) ≡ false }
-    requires window { Begun (Quad x0 y0 x1 y1 x2 y2 x3 y3) left top w h }
+    requires window { (left ≤ 255) × (top ≤ 255) }
     ensures { StampSays (Quad x0 y0 x1 y1 x2 y2 x3 y3) left top w h result }
 {
     if framed(x0, y0, x1, y1, x2, y2, x3, y3, left, top, w, h) {
@@ -177,7 +170,7 @@ fn quad_stamp(
 pub fn stamp_of(kind: Kind, left: usize, top: usize, w: usize, h: usize) -> u64
     requires sizes { Sized w h }
     requires places { bad_places kind ≡ false }
-    requires window { Begun kind left top w h }
+    requires window { (left ≤ 255) × (top ≤ 255) }
     ensures { StampSays kind left top w h result }
 {
     match kind {

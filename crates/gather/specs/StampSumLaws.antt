@@ -1,13 +1,13 @@
 -- Laws: the loops over a stamp, and what they come to.
-use Rattle.std.specs.Prelude.{◌≡◌, Bool, true, List, eqb, Float}
-use Rattle.std.proofs.Math.Path.{refl, sym, ap}
-use Rattle.std.proofs.Common.{◌∙◌, ap₂, subst, pow-suc, mul_comm, mul_assoc, mul-le-mul, mul-le-mul_right, eqb→eq}
+use Rattle.std.specs.Prelude.{◌≡◌, Bool, true, ◌&&◌, List, eqb, leb, ltb, Float}
+use Rattle.std.proofs.Math.Path.{refl, ap}
+use Rattle.std.proofs.Common.{sym, ◌∙◌, ap₂, subst, pow-suc, mul_comm, mul_assoc, mul-le-mul, mul-le-mul_right, eqb→eq, ltb-true}
 use Prim.Native.Nat.{ℕ, zero, suc, ◌+◌, ◌-◌, ◌*◌, ◌/◌, ◌%◌, ◌^◌, ◌≤◌, ◌<◌}
 use Rattle.std.proofs.Math.Nat.{div-div-eq-div-mul}
 use native.Mathlib.Omega.{arith}
 use Rattle.std.proofs.lemmas.Nat.{and_le_l, leading_top}
 use Rattle.std.specs.Int.Count.{count_trailing_zeros, count_leading_zeros}
-use Rattle.laws.specs.Bools.{true_is}
+use Rattle.laws.specs.Bools.{true_is, and_right}
 use Rattle.laws.specs.Ends.{Ends, ends, ends_of}
 use Rattle.laws.specs.EndsLaws.{Ended, ended}
 use Rattle.laws.specs.PixelSums.{add_span}
@@ -18,11 +18,14 @@ use Rattle.stamp.specs.Digits.{digit_is, without_first, digit_steps, row_steps, 
 use Rattle.stamp.specs.DigitLaws.{first, without-digit, steps_none, row_steps-none, digit-test, digits_row_at}
 use Rattle.stamp.specs.StampLaws.{digits_below}
 use Rattle.stamp.specs.Stamp.{digits_from}
-use Rattle.stamp.specs.WindowLaws.{stamp_points_lem, stamp_spans_lem, points_agree, spans_agree}
+use Rattle.stamp.specs.WindowLaws.{stamp_points_lem, stamp_spans_lem}
 use Rattle.cover.specs.declared.Kind.{Kind}
 use Rattle.cover.specs.Cover.{covered}
-use Rattle.cover.specs.Stamps.{seen, Stamped}
-use Rattle.cover.specs.StampLaws.{is_seen}
+use Rattle.cover.specs.Stamps.{Stamped}
+use Rattle.cover.specs.declared.reached.Rows.{Rows}
+use Rattle.cover.specs.ReachRows.{ReachRowsSays}
+use Rattle.refusal.specs.Refusals.{Sized}
+use Rattle.gather.specs.RunSumLaws.{reached_rows, some_reached}
 use Rattle.gather.specs.Gathered.{pixel_from, pixel_at, point_sums, span_sums}
 use Rattle.stamp.specs.RowLaws.{row-some, row_ends_lem, row_none}
 use Rattle.gather.specs.StampSums.{stamp_pixel, stamp_points, StampIn, first_place, stamp_row, stamp_spans, RowIn, RowsIn, AddStampSays, PushStampSays}
@@ -157,7 +160,7 @@ rows_behind w left y m (suc n) b l g =
 -- ---- the stamp of a shape
 module _ (kind : Kind) (left top w h bits : ℕ) (g : Stamped kind left top w h bits) where
   abbrev test : ℕ → Bool
-  test i = seen kind w h (left + i % 8) (top + i / 8)
+  test i = covered kind (left + i % 8) (top + i / 8)
 
   -- a pixel's numbers lie in a picture
   pub stamp_in : (n : ℕ) → n ≡ h * w * 3 → StampIn w left top n bits
@@ -174,8 +177,7 @@ module _ (kind : Kind) (left top w h bits : ℕ) (g : Stamped kind left top w h 
   unfolding point_sums
   stamp_is_points target canvas =
       ap (λ (b : ℕ). stamp_points w target canvas left top b no_sums) g.is
-      ∙ stamp_points_lem no_sums plus minus (pixel_at w target canvas) (seen kind w h) left top w h g.window
-      ∙ points_agree no_sums plus minus (seen kind w h) (covered kind) w (pixel_at w target canvas) h (λ x y l m. sym (is_seen kind w h x y l m))
+      ∙ stamp_points_lem no_sums plus minus (pixel_at w target canvas) (covered kind) left top w h g.window
 
   -- a row that has a pixel lies in a table
   pub rows_in : (m : ℕ) → m ≡ h * (w + 1) * 15 → RowsIn w left top m 8 bits
@@ -186,7 +188,7 @@ module _ (kind : Kind) (left top w h bits : ℕ) (g : Stamped kind left top w h 
           let t = digit-test test (0 + k * 8) 8 j o in
           let a : (0 + k * 8 + j) % 8 ≡ j = omega (arith, t.0) in
           let b : (0 + k * 8 + j) / 8 ≡ k = omega (arith, t.0) in
-          let c : seen kind w h (left + j) (top + k) ≡ true = ap₂ (λ (p q : ℕ). seen kind w h (left + p) (top + q)) (sym a) (sym b) ∙ t.1 in
+          let c : covered kind (left + j) (top + k) ≡ true = ap₂ (λ (p q : ℕ). covered kind (left + p) (top + q)) (sym a) (sym b) ∙ t.1 in
           ((g.window.columns (left + j) (top + k) c).2, (g.window.rows (left + j) (top + k) c).2)
 
       row : (k : ℕ) → k < 8 → RowIn w left (top + k) m (digits_from test (0 + k * 8) 8)
@@ -207,5 +209,10 @@ module _ (kind : Kind) (left top w h bits : ℕ) (g : Stamped kind left top w h 
   unfolding span_sums
   stamp_is_spans table =
       ap (λ (b : ℕ). stamp_spans w table left top 8 b no_sums) g.is
-      ∙ stamp_spans_lem (seen kind w h) left top w h g.window no_sums plus minus (place_of w table)
-      ∙ spans_agree no_sums plus minus (seen kind w h) (covered kind) w (place_of w table) h (λ x y l m. sym (is_seen kind w h x y l m))
+      ∙ stamp_spans_lem (covered kind) left top w h g.window no_sums plus minus (place_of w table)
+
+-- ---- what a call knows where its stamp is tried
+pub near : (kind : Kind) (w h : ℕ) → Sized w h → (r : Rows) → ReachRowsSays kind w h r → r.top < r.bottom → (left : ℕ) → leb (r.bottom - r.top) 8 && ltb left w ≡ true → (left ≤ 255) × (r.top ≤ 255)
+near kind w h z r e l left t =
+    let g = reached_rows kind w h z r.top r.bottom (some_reached kind w h r e l) in
+    (omega (arith, ltb-true left w (and_right (leb (r.bottom - r.top) 8) (ltb left w) t), z.w_high), omega (arith, g.2, l))

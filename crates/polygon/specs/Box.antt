@@ -1,7 +1,7 @@
 -- Laws: a covered point lies within the rows and the columns of the corners, for any number of corners and both windings: the Rust's boxes leave out nothing.
 -- Seen from the point, an edge's side is the cross product of two corner vectors. If the point lay beyond all corners, their slopes would rise
 -- all the way round, so all were equal, and there were no area.
-use Rattle.std.specs.Prelude.{◌≡◌, refl, Bool, true, false, ◌||◌, cond, ◌⊎◌, ℕ, length, ℤ, pos, negsuc, ◌+ℤ◌, ◌-ℤ◌, ◌*ℤ◌, ◌≤ℤ◌, ◌<ℤ◌}
+use Rattle.std.specs.Prelude.{◌≡◌, refl, Bool, true, false, ◌||◌, cond, ℕ, length, ℤ, pos, negsuc, ◌+ℤ◌, ◌-ℤ◌, ◌*ℤ◌, ◌≤ℤ◌, ◌<ℤ◌}
 use Rattle.std.proofs.Common.{sym, ap, subst, ⊎_elim, arith}
 use mathlib.Core.List.{List, [], ◌∷◌, map}
 use Rattle.std.specs.Int.Signed.{le_z, lt_z}
@@ -13,7 +13,7 @@ use Rattle.laws.specs.Bools.{and_left, and_right}
 use Rattle.laws.specs.Fit.{no_both}
 use Rattle.laws.specs.Runs.{all_hold}
 use Rattle.whole.specs.Whole.{lesser, greater}
-use Rattle.polygon.specs.Polygon.{Point, at, side, area_test, edge_test, edges_to, polygon_tests, polygon, corners, least_of, greatest_of, InBox}
+use Rattle.polygon.specs.Polygon.{Point, side, area_test, edge_test, edges_to, polygon_tests, polygon, corners, least_of, greatest_of, InBox}
 use Rattle.polygon.specs.Steps.{sign_of}
 use Rattle.polygon.specs.Sides.{edge_inner}
 

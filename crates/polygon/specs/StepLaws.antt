@@ -1,5 +1,5 @@
 -- Laws: what the steps of fill_quad rest on: the list's corners by place, the sign of the area, the ends of a list.
-use Rattle.std.specs.Prelude.{◌≡◌, refl, Bool, true, false, cond, List, [], ◌∷◌, ℕ, suc, ◌+◌, ◌-◌, ◌≤◌, ◌<◌, length, get_or, drop, ℤ, pos, negsuc}
+use Rattle.std.specs.Prelude.{◌≡◌, refl, Bool, true, false, cond, List, [], ◌∷◌, ℕ, suc, ◌+◌, ◌≤◌, ◌<◌, length, get_or, drop, ℤ, pos, negsuc}
 use Rattle.std.proofs.Math.Path.{sym}
 use Rattle.std.proofs.Common.{◌∙◌, ap, arith, lt-ltb, le-ltb, add-one, length-drop, drop_of_length-le, drop-cons, to_z, of_z}
 use Rattle.std.specs.Int.Signed.{le_z, lt_z}

@@ -1,4 +1,4 @@
-// Pictures by themselves, exported for the differential runs and the benchmark. Nothing that ships links this crate.
+// Pictures by themselves, for the differential runs and the benchmark; `probe_picture_c` exports them. Nothing that ships links this crate.
 #![tactic(auto)]
 
 ghost use Rattle.std.specs.Prelude.{◌≡◌, length};
@@ -43,8 +43,7 @@ pub struct ProbedReach {
     pub last: i32,
 }
 
-#[unsafe(no_mangle)]
-pub extern "C" fn probe_filled_canvas(
+pub fn probe_filled_canvas(
     w: usize,
     h: usize,
     red: f32,
@@ -57,8 +56,7 @@ pub extern "C" fn probe_filled_canvas(
     picture::filled_canvas(w, h, red, green, blue, canvas)
 }
 
-#[unsafe(no_mangle)]
-pub extern "C" fn probe_mean_rgb(w: usize, h: usize, target: &[f32]) -> ProbedMean
+pub fn probe_mean_rgb(w: usize, h: usize, target: &[f32]) -> ProbedMean
     ensures { ProbeMeanRgbSays w h target.now result }
 {
     let m = picture::mean_rgb(w, h, target);
@@ -78,8 +76,7 @@ pub extern "C" fn probe_mean_rgb(w: usize, h: usize, target: &[f32]) -> ProbedMe
     }
 }
 
-#[unsafe(no_mangle)]
-pub extern "C" fn probe_sse_total(w: usize, h: usize, target: &[f32], canvas: &[f32]) -> ProbedTotal
+pub fn probe_sse_total(w: usize, h: usize, target: &[f32], canvas: &[f32]) -> ProbedTotal
     ensures { ProbeSseTotalSays w h target.now canvas.now result }
 {
     let t = picture::sse_total(w, h, target, canvas);
@@ -132,8 +129,7 @@ fn blended(
 }
 
 // A shape is a slice of coordinates: cx, cy, r, or the corners of a triangle or a quad; another length is refusal 2.
-#[unsafe(no_mangle)]
-pub extern "C" fn probe_blend(
+pub fn probe_blend(
     w: usize,
     h: usize,
     shape: &[i32],
@@ -191,8 +187,7 @@ fn reach(kind: Kind, w: usize, h: usize) -> ProbedReach
     }
 }
 
-#[unsafe(no_mangle)]
-pub extern "C" fn probe_reach(w: usize, h: usize, shape: &[i32]) -> ProbedReach
+pub fn probe_reach(w: usize, h: usize, shape: &[i32]) -> ProbedReach
     ensures { ProbeReachSays w h shape.now result }
 {
     let o = crossing::outline(shape);

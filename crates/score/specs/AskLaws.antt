@@ -1,5 +1,5 @@
 -- Laws: a call that passed its tests in one go and reaches some row meets what the functions on its way to the sums ask.
-use Rattle.std.specs.Prelude.{◌≡◌, false, ◌||◌, List, ℕ, ◌+◌, ◌*◌, ◌≤◌, ◌<◌, length, Float}
+use Rattle.std.specs.Prelude.{◌≡◌, true, false, ◌&&◌, ◌||◌, List, ℕ, ◌+◌, ◌-◌, ◌*◌, ◌≤◌, ◌<◌, leb, ltb, length, Float}
 use Rattle.std.proofs.Common.{sym, ◌∙◌, arith}
 use Rattle.refusal.specs.Refusals.{Sized}
 use Rattle.refusal.specs.Lengths.{bad_picture, bad_table}
@@ -7,20 +7,23 @@ use Rattle.cover.specs.declared.Kind.{Kind}
 use Rattle.cover.specs.declared.reached.Rows.{Rows}
 use Rattle.cover.specs.Cover.{bad_places}
 use Rattle.cover.specs.ReachRows.{ReachRowsSays}
-use Rattle.cover.specs.Stamps.{Stamped, FirstColumnSays, Begun}
-use Rattle.cover.specs.StampLaws.{begun, begun_low}
+use Rattle.cover.specs.Stamps.{Stamped}
 use Rattle.score.specs.Usual.{Usual}
 use Rattle.gather.specs.RunSums.{Reached}
 use Rattle.gather.specs.RunSumLaws.{some_reached}
 use Rattle.gather.specs.StampSums.{StampIn, RowsIn}
-use Rattle.gather.specs.StampSumLaws.{stamp_in, rows_in}
+use Rattle.gather.specs.StampSumLaws.{near, stamp_in, rows_in}
 use Rattle.score.specs.CallLaws.{usual_rows, table-length, picture_lengths}
+
+-- a stamp is tried
+abbrev pub Tried : Rows → ℕ → ℕ → Type 0
+Tried r w left = leb (r.bottom - r.top) 8 && ltb left w ≡ true
 
 -- what is asked, from the first column on; Lent is said of the lists that are read, Laid of a stamp in them
 pub record Asked (kind : Kind) (w h : ℕ) (r : Rows) (Lent : Type 0) (Laid : ℕ → ℕ → Type 0) : Type 0 where
   pub column : (w ≤ 256) × (bad_places kind ≡ false)
-  pub stamp : (left : ℕ) → FirstColumnSays kind w left → Sized w h × ((bad_places kind ≡ false) × Begun kind left r.top w h)
-  pub added : (left bits : ℕ) → FirstColumnSays kind w left → Stamped kind left r.top w h bits → ((left < 256) × (r.top < 256) × (w ≤ 256)) × Laid left bits
+  pub stamp : (left : ℕ) → Tried r w left → Sized w h × ((bad_places kind ≡ false) × ((left ≤ 255) × (r.top ≤ 255)))
+  pub added : (left bits : ℕ) → Tried r w left → Stamped kind left r.top w h bits → ((left < 256) × (r.top < 256) × (w ≤ 256)) × Laid left bits
   pub reached : Sized w h × ((bad_places kind ≡ false) × (Lent × Reached kind w h r.top r.bottom))
 
 module _ (kind : Kind) (w h : ℕ) where
@@ -37,8 +40,8 @@ module _ (kind : Kind) {opacity : Float} {n : ℕ} (w h : ℕ) where
   asked Lent Laid u r e l lent laid =
       let p = usual_rows kind opacity n w h u in record {
         column = (p.0.w_high, p.1);
-        stamp = λ left f. (p.0, (p.1, begun kind w h r e l left f));
-        added = λ left bits f g. let k = begun_low kind left r.top w h p.0 (begun kind w h r e l left f) in ((omega (arith, k.0), omega (arith, k.1), p.0.w_high), laid left bits g);
+        stamp = λ left t. (p.0, (p.1, near kind w h p.0 r e l left t));
+        added = λ left bits t g. let k = near kind w h p.0 r e l left t in ((omega (arith, k.0), omega (arith, k.1), p.0.w_high), laid left bits g);
         reached = (p.0, (p.1, (lent, some_reached kind w h r e l)));
       }
 

@@ -148,12 +148,14 @@ pub fn circle_point_score(
             return Scored::Done(grade::no_score(opacity, 0));
         }
         let left = cover::stamps::first_column(kind, w);
-        let bits = cover::stamps::circle_stamp(cx, cy, r, left, top, w, h);
-        if bits != cover::stamps::NO_STAMP {
-            let few = gather::points::unpaired(gather::points::push_stamp(
-                bits, left, top, target, canvas, w,
-            ));
-            return done(grade::finalize(few, opacity));
+        if (bottom - top <= 8) & (left < w) {
+            let bits = cover::stamps::circle_stamp(cx, cy, r, left, top, w, h);
+            if bits != cover::stamps::NO_STAMP {
+                let few = gather::points::unpaired(gather::points::push_stamp(
+                    bits, left, top, target, canvas, w,
+                ));
+                return done(grade::finalize(few, opacity));
+            }
         }
         let sums = gather::points::reached_sums(kind, top, bottom, w, h, target, canvas);
         return done(grade::finalize(sums, opacity));
@@ -293,15 +295,17 @@ pub fn collect_circle_sums(
             return crate::no_sums(0);
         }
         let left = cover::stamps::first_column(kind, w);
-        let bits = cover::stamps::circle_stamp(cx, cy, r, left, top, w, h);
-        if bits != cover::stamps::NO_STAMP {
-            let few = gather::points::unpaired(gather::points::push_stamp(
-                bits, left, top, target, canvas, w,
-            ));
-            return Collected {
-                sums: few,
-                refused: 0,
-            };
+        if (bottom - top <= 8) & (left < w) {
+            let bits = cover::stamps::circle_stamp(cx, cy, r, left, top, w, h);
+            if bits != cover::stamps::NO_STAMP {
+                let few = gather::points::unpaired(gather::points::push_stamp(
+                    bits, left, top, target, canvas, w,
+                ));
+                return Collected {
+                    sums: few,
+                    refused: 0,
+                };
+            }
         }
         let sums = gather::points::reached_sums(kind, top, bottom, w, h, target, canvas);
         return Collected {

@@ -6,15 +6,17 @@ use mathlib.Core.List.{List, [], ◌∷◌, ◌++◌}
 use Prim.Native.Nat.{ℕ, zero, suc, min, ◌+◌, ◌-◌, ◌*◌, ◌^◌, ◌<◌, ◌≤◌}
 use native.Mathlib.Omega.{arith}
 use Rattle.std.proofs.Math.ListN.{take, length-drop}
-use Rattle.std.proofs.Math.Seq.{drop-cons, take-length, append_snoc}
+use Rattle.std.proofs.Math.Seq.{drop-cons, append_snoc}
 use borrow.Author.Tests.{lt-ltb, le-ltb, eq-eqb, ne_eqb}
 use Rattle.std.specs.Int.{Width}
 use mir.Val.{SFits, hbits, to_z, of_z}
 use Rattle.std.proofs.Math.Facts.{to_z_pos}
-use Rattle.bytes.specs.Bytes.{index_of, index_after, slice}
 use Rattle.words.specs.declared.Word.{Word}
 use Rattle.words.specs.declared.Word.TheVariants.{Number, Other}
-use Rattle.words.specs.Words.{digit_of, digits_after, digits, negated, value_of, joined, words_of, leading, numbers_of, over, ValueSays, NumbersSays, SignedSays, Signed32Says}
+use Rattle.words.specs.Words.{index_of, FindSays, digit_of, digits_after, digits, negated, value_of, joined, words_of, leading, numbers_of, over, ValueSays, NumbersSays, SignedSays, Signed32Says}
+
+pub FindSays-unique : (t : List ℕ) (f b r s : ℕ) → FindSays t f b r → FindSays t f b s → r ≡ s
+FindSays-unique t f b r s p q = p ∙ sym q
 
 pub ValueSays-unique : (w : List ℕ) (r s : Word) → ValueSays w r → ValueSays w s → r ≡ s
 ValueSays-unique w r s p q = p ∙ sym q
@@ -43,6 +45,21 @@ module _ (w : Width) (k : ℕ) (h : k < 2 ^ hbits w) where
 
   pub less_read : to_z w (of_z w (negsuc 0 -ℤ to_z w k)) ≡ negsuc k
   less_read = to_z-of_z less_fits ∙ less_is
+
+-- ---- the first place of a byte
+
+pub index_none : (b i : ℕ) (t : List ℕ) → length t ≤ i → index_of b (drop i t) ≡ 0
+unfolding index_of
+index_none b i t h = rw (drop_of_length-le t {i = i} h)
+
+module _ (b i : ℕ) (t : List ℕ) (h : i < length t) where
+  pub index_here : get_or t i 0 ≡ b → index_of b (drop i t) ≡ 0
+  unfolding index_of
+  index_here e = rw (drop-cons t i 0 h) (simp (eq-eqb (get_or t i 0) b e))
+
+  pub index_next : (get_or t i 0 ≡ b → ⊥) → index_of b (drop i t) ≡ suc (index_of b (drop (i + 1) t))
+  unfolding index_of
+  index_next e = rw (add-one, drop-cons t i 0 h) (simp (ne_eqb (get_or t i 0) b e))
 
 -- ---- a line
 
@@ -106,17 +123,17 @@ value_decimal (b ∷ r) h d e = simp (ne_eqb b 45 d, ne_eqb b 120 e)
 
 -- a text that is not empty is its first word and the words behind the space
 first_word : (t : List ℕ) → 0 < length t → words_of t ≡ take (index_of 32 t) t ∷ words_of (drop (suc (index_of 32 t)) t)
-unfolding words_of joined index_of index_after
+unfolding words_of joined index_of
 first_word [] h = absurd (omega arith)
 first_word (b ∷ []) h = by (eqb b 32)
   where
-    by : (e : Bool) → cond e ([] ∷ []) ((b ∷ []) ∷ []) ≡ take (index_after e 0) (b ∷ []) ∷ words_of (drop (suc (index_after e 0)) (b ∷ []))
+    by : (e : Bool) → cond e ([] ∷ []) ((b ∷ []) ∷ []) ≡ take (cond e 0 1) (b ∷ []) ∷ words_of (drop (suc (cond e 0 1)) (b ∷ []))
     by true = refl
     by false = refl
 first_word (b ∷ c ∷ r) h = by (eqb b 32) (first_word (c ∷ r) (omega arith))
   where
     by : (e : Bool) → words_of (c ∷ r) ≡ take (index_of 32 (c ∷ r)) (c ∷ r) ∷ words_of (drop (suc (index_of 32 (c ∷ r))) (c ∷ r))
-        → cond e ([] ∷ words_of (c ∷ r)) (joined b (words_of (c ∷ r))) ≡ take (index_after e (index_of 32 (c ∷ r))) (b ∷ c ∷ r) ∷ words_of (drop (suc (index_after e (index_of 32 (c ∷ r)))) (b ∷ c ∷ r))
+        → cond e ([] ∷ words_of (c ∷ r)) (joined b (words_of (c ∷ r))) ≡ take (cond e 0 (suc (index_of 32 (c ∷ r)))) (b ∷ c ∷ r) ∷ words_of (drop (suc (cond e 0 (suc (index_of 32 (c ∷ r))))) (b ∷ c ∷ r))
     by true i = refl
     by false i = ap (joined b) i
 
@@ -124,13 +141,11 @@ first_word (b ∷ c ∷ r) h = by (eqb b 32) (first_word (c ∷ r) (omega arith)
 abbrev pub rest : List ℕ → ℕ → List ℕ
 rest t a = numbers_of (words_of (drop a t))
 
-module _ (t : List ℕ) (a e : ℕ) (h : a < length t) (found : e ≡ a + index_of 32 (slice a (length t) t)) where
+module _ (t : List ℕ) (a e : ℕ) (h : a < length t) (found : FindSays t a 32 e) where
   word_next : words_of (drop a t) ≡ take (e - a) (drop a t) ∷ words_of (drop (e + 1) t)
-  unfolding slice
   word_next =
-      let f : e ≡ a + index_of 32 (drop a t) = rw take-length at found in
-      let k : e - a ≡ index_of 32 (drop a t) = omega arith in
-      let m : e + 1 ≡ a + suc (index_of 32 (drop a t)) = omega arith in
+      let k : e - a ≡ index_of 32 (drop a t) = omega (arith, found) in
+      let m : e + 1 ≡ a + suc (index_of 32 (drop a t)) = omega (arith, found) in
       rw (k, m) (first_word (drop a t) (rw length-drop (omega arith)) ∙ ap (λ (r : List ℕ). take (index_of 32 (drop a t)) (drop a t) ∷ words_of r) (drop-drop (suc (index_of 32 (drop a t))) a t))
 
   pub rest-next : (x : ℕ) → Number x ≡ value_of (take (e - a) (drop a t)) → rest t a ≡ x ∷ rest t (e + 1)

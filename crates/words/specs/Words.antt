@@ -1,5 +1,5 @@
 -- Rules: how a line of stored answers reads. Bytes are numbers: 32 is the space, 45 '-', 120 'x', 48 to 57 the digits, 65 to 70 A to F.
-use Rattle.std.specs.Prelude.{◌≡◌, cond, List, [], ◌∷◌, ℕ, min, ◌+◌, ◌-◌, ◌*◌, ◌^◌, eqb, ltb, length, ℤ, pos, negsuc}
+use Rattle.std.specs.Prelude.{◌≡◌, cond, List, [], ◌∷◌, ℕ, suc, min, ◌+◌, ◌-◌, ◌*◌, ◌^◌, eqb, ltb, length, drop, ℤ, pos, negsuc}
 use Rattle.words.specs.declared.Word.{Word}
 use Rattle.words.specs.declared.Word.TheVariants.{Number, Other}
 
@@ -32,6 +32,14 @@ ValueSays word r = r ≡ value_of word
 unfoldable pub joined : ℕ → List (List ℕ) → List (List ℕ)
 joined b [] = (b ∷ []) ∷ []
 joined b (w ∷ ws) = (b ∷ w) ∷ ws
+
+-- how many elements stand before the first that is b; all of them where none is
+unfoldable pub index_of : ℕ → List ℕ → ℕ
+index_of b [] = 0
+index_of b (x ∷ r) = cond (eqb x b) 0 (suc (index_of b r))
+
+abbrev pub FindSays : List ℕ → ℕ → ℕ → ℕ → Type 0
+FindSays text from byte r = r ≡ from + index_of byte (drop from text)
 
 -- each space ends a word
 unfoldable pub words_of : List ℕ → List (List ℕ)

@@ -5,7 +5,7 @@
 ghost use Rattle.std.specs.Prelude.{◌≡◌, ◌≤◌};
 ghost use Rattle.words.specs.Words.{digit_of, digits, negated, ValueSays, NumbersSays, SignedSays, Signed32Says};
 
-use bytes::scan;
+pub mod scan;
 
 // What a word says.
 #[derive(Clone, Copy)]
@@ -104,7 +104,7 @@ pub fn numbers(text: &[u8], out: &mut [u64]) -> usize
     let mut n = 0;
     let mut a = 0;
     while a < text.len() {
-        let e = scan::find(text, a, text.len(), b' ');
+        let e = scan::find(text, a, b' ');
         let v = value(&text[a..e]);
         let Word::Number(x) = v else {
             return n;

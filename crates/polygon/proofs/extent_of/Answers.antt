@@ -1,10 +1,8 @@
-use borrow.Author.Rules.{rules}
 use mathlib.Core.Path.{◌≡◌, ◌∙◌, ap, ap₂}
 use Prim.Native.Nat.{ℕ, ◌+◌, ◌-◌, ◌<◌}
 use lib.ListN.{length, drop, get_or}
 use lib.IntN.{pos}
 use mir.Syntax.{w32}
-use mir.Val.{to_z}
 use Rattle.laws.specs.Fit.{read}
 use Rattle.whole.specs.Whole.{lesser, greater}
 use Rattle.polygon.specs.Polygon.{least_of, greatest_of}

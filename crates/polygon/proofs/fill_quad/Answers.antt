@@ -1,4 +1,4 @@
-use borrow.Author.Rules.{rules, sfits_of}
+use borrow.Author.Rules.{sfits_of}
 use mathlib.Core.Path.{◌≡◌, ◌∙◌, sym, ap, subst}
 use mathlib.Core.List.{List}
 use Prim.Native.Nat.{ℕ, ◌≤◌}
@@ -31,7 +31,7 @@ module _ (s : Start) where
   ys = (four s.args.y0 s.args.y1 s.args.y2 s.args.y3)
 
 pub side-turn-requires : goal.side-turn-requires
-side-turn-requires s = let p = corner_placed (xs (goal.at.side-turn-requires s).Start) (ys (goal.at.side-turn-requires s).Start) s.requires.corners in (p 0, (p 1, p 2))
+side-turn-requires s = let p = corner_placed (xs (goal.at.side-turn-requires s).Start) (ys (goal.at.side-turn-requires s).Start) s.requires.corners in record { from = p 0; to = p 1; point = p 2 }
 
 -- the side of the third corner, as the numbers are read
 told : (a : After-side-turn) → a.side-turn.result ≡ side (at a.args.x0 a.args.y0) (at a.args.x1 a.args.y1) (at a.args.x2 a.args.y2)
@@ -40,7 +40,7 @@ told a =
 
 pub returns-then-turn-eq0 : goal.returns-then-turn-eq0
 returns-then-turn-eq0 c =
-    c.requires.blank ∙ no_area_none (xs (goal.at.returns-then-turn-eq0 c).Start) (ys (goal.at.returns-then-turn-eq0 c).Start) c.args.w c.args.h (sym (told (goal.at.returns-then-turn-eq0 c).After-side-turn) ∙ bits_zero (sfits_of c.side-turn.type_inv) c.if-turn-eq0.true)
+    c.requires.blank ∙ no_area_none (xs (goal.at.returns-then-turn-eq0 c).Start) (ys (goal.at.returns-then-turn-eq0 c).Start) c.args.w c.args.h (sym (told (goal.at.returns-then-turn-eq0 c).After-side-turn) ∙ bits_zero {w = w64} (sfits_of c.side-turn.type_inv) c.if-turn-eq0.true)
 
 -- the two rows, as they are read
 module _ (c : After-lowest) where
@@ -48,10 +48,10 @@ module _ (c : After-lowest) where
   from = c.before.before.before
 
   low-is : c.lowest.result ≡ least_of (ys from)
-  low-is = let s = from in simp (to_z-of_z, s.fits.y0, s.fits.y1, s.fits.y2, s.fits.y3) at c.lowest.ensures
+  low-is = let s = from in simp (to_z-of_z, s.ranges.y0, s.ranges.y1, s.ranges.y2, s.ranges.y3) at c.lowest.ensures
 
   low_read : Is (to_z w32 (of_z w32 c.lowest.result)) (least_of (ys from)) 8191
-  low_read = let b = least_bounded (ys from) from.requires.corners.y in ldr (wfits tt (weq low-is b)) low-is b
+  low_read = let b = least_bounded (ys from) from.requires.corners.y in ldr {w = w32} (wfits tt (weq low-is b)) low-is b
 
 pub overflow_cast-lowest : goal.overflow_cast-lowest
 overflow_cast-lowest c = fits_as tt (low_read (goal.at.overflow_cast-lowest c).After-lowest)
@@ -61,10 +61,10 @@ module _ (c : After-highest) where
   begin = from c.before.before
 
   high_is : c.highest.result ≡ greatest_of (ys begin)
-  high_is = let s = begin in simp (to_z-of_z, s.fits.y0, s.fits.y1, s.fits.y2, s.fits.y3) at c.highest.ensures
+  high_is = let s = begin in simp (to_z-of_z, s.ranges.y0, s.ranges.y1, s.ranges.y2, s.ranges.y3) at c.highest.ensures
 
   high_read : Is (to_z w32 (of_z w32 c.highest.result)) (greatest_of (ys begin)) 8191
-  high_read = let b = greatest_bounded (ys begin) begin.requires.corners.y in ldr (wfits tt (weq high_is b)) high_is b
+  high_read = let b = greatest_bounded (ys begin) begin.requires.corners.y in ldr {w = w32} (wfits tt (weq high_is b)) high_is b
 
 pub overflow_cast-highest : goal.overflow_cast-highest
 overflow_cast-highest c = fits_as tt (high_read (goal.at.overflow_cast-highest c).After-highest)
@@ -102,19 +102,19 @@ turned c = let s = start c.before in weq (signed c).is (sign_bounded (area2 (cor
 
 module _ (c : After-sign_of-sign) (i j : ℕ) where
   ends : let s = start c.before in Placed (at (to_z w32 (of_z w32 (get_or (xs s) i (pos 0)))) (to_z w32 (of_z w32 (get_or (ys s) i (pos 0))))) × (Placed (at (to_z w32 (of_z w32 (get_or (xs s) j (pos 0)))) (to_z w32 (of_z w32 (get_or (ys s) j (pos 0))))) × Bounded 1 (to_z w32 (of_z w32 c.sign_of-sign.result)))
-  ends = let s = start c.before in let p = corner_placed (xs s) (ys s) s.requires.0 in (p i, (p j, turned c))
+  ends = let s = start c.before in let p = corner_placed (xs s) (ys s) s.requires.corners in (p i, (p j, turned c))
 
 pub edge_of-e0-requires : goal.edge_of-e0-requires
-edge_of-e0-requires c = ends (goal.at.edge_of-e0-requires c).After-sign_of-sign 0 1
+edge_of-e0-requires c = let e = ends (goal.at.edge_of-e0-requires c).After-sign_of-sign 0 1 in record { from = e.0; to = e.1.0; sign = e.1.1 }
 
 pub edge_of-e1-requires : goal.edge_of-e1-requires
-edge_of-e1-requires c = ends (goal.at.edge_of-e1-requires c).After-sign_of-sign 1 2
+edge_of-e1-requires c = let e = ends (goal.at.edge_of-e1-requires c).After-sign_of-sign 1 2 in record { from = e.0; to = e.1.0; sign = e.1.1 }
 
 pub edge_of-e2-requires : goal.edge_of-e2-requires
-edge_of-e2-requires c = ends (goal.at.edge_of-e2-requires c).After-sign_of-sign 2 3
+edge_of-e2-requires c = let e = ends (goal.at.edge_of-e2-requires c).After-sign_of-sign 2 3 in record { from = e.0; to = e.1.0; sign = e.1.1 }
 
 pub edge_of-e3-requires : goal.edge_of-e3-requires
-edge_of-e3-requires c = ends (goal.at.edge_of-e3-requires c).After-sign_of-sign 3 0
+edge_of-e3-requires c = let e = ends (goal.at.edge_of-e3-requires c).After-sign_of-sign 3 0 in record { from = e.0; to = e.1.0; sign = e.1.1 }
 
 module _ (c : After-edge_of-e3) where
   abbrev turn : After-sign_of-sign
@@ -124,10 +124,10 @@ module _ (c : After-edge_of-e3) where
   outset = start turn.before
 
   edges : let s = outset.args in Edges s.x0 s.y0 s.x1 s.y1 s.x2 s.y2 s.x3 s.y3 (to_z w32 (of_z w32 turn.sign_of-sign.result))
-      c.Edge-of.result c.edge_of-e1.result c.edge_of-e2.result c.edge_of-e3.result
+      c.edge_of-e0.result c.edge_of-e1.result c.edge_of-e2.result c.edge_of-e3.result
   edges =
       let s = outset.ranges in record {
-        one = rw (to_z-of_z s.x0, to_z-of_z s.y0, to_z-of_z s.x1, to_z-of_z s.y1) at c.Edge-of.ensures;
+        one = rw (to_z-of_z s.x0, to_z-of_z s.y0, to_z-of_z s.x1, to_z-of_z s.y1) at c.edge_of-e0.ensures;
         two = rw (to_z-of_z s.x1, to_z-of_z s.y1, to_z-of_z s.x2, to_z-of_z s.y2) at c.edge_of-e1.ensures;
         three = rw (to_z-of_z s.x2, to_z-of_z s.y2, to_z-of_z s.x3, to_z-of_z s.y3) at c.edge_of-e2.ensures;
         four = rw (to_z-of_z s.x3, to_z-of_z s.y3, to_z-of_z s.x0, to_z-of_z s.y0) at c.edge_of-e3.ensures;
@@ -138,12 +138,12 @@ quad_rows-requires c =
     let g = turn (goal.at.quad_rows-requires c).After-edge_of-e3 in
     let d = g.before in
     let s = start d in
-    rw (to_z-of_z s.fits.x0, to_z-of_z s.fits.y0, to_z-of_z s.fits.x1, to_z-of_z s.fits.y1, to_z-of_z s.fits.x2, to_z-of_z s.fits.y2, to_z-of_z s.fits.x3, to_z-of_z s.fits.y3) (signed g, (edges (goal.at.quad_rows-requires c).After-edge_of-e3, (s.requires.1.0.w_high, (past-most d, subst Room (sym s.requires.1.1) blank_room))))
+    rw (to_z-of_z s.ranges.x0, to_z-of_z s.ranges.y0, to_z-of_z s.ranges.x1, to_z-of_z s.ranges.y1, to_z-of_z s.ranges.x2, to_z-of_z s.ranges.y2, to_z-of_z s.ranges.x3, to_z-of_z s.ranges.y3) (record { sign = signed g; edges = edges (goal.at.quad_rows-requires c).After-edge_of-e3; columns = s.requires.size.w_high; rows = past-most d; places = subst Room (sym s.requires.blank) blank_room })
 
 pub returns : goal.returns
 returns c =
     let g = turn (goal.at.returns c).After-edge_of-e3 in
     let d = g.before in
     let s = start d in
-    fill_done (xs s) (ys s) s.requires.0.same s.args.w s.args.h d.before.before.clamp-i64.result d.clamp-i642.result _
-    s.requires.1.0.h_high (first-is d) (past_is d) (rw (to_z-of_z s.fits.x0, to_z-of_z s.fits.y0, to_z-of_z s.fits.x1, to_z-of_z s.fits.y1, to_z-of_z s.fits.x2, to_z-of_z s.fits.y2, to_z-of_z s.fits.x3, to_z-of_z s.fits.y3, s.requires.1.1) at c.quad_rows.ensures)
+    fill_done (xs s) (ys s) s.requires.corners.same s.args.w s.args.h d.clamp_i64-first.result d.clamp_i64-past.result _
+    s.requires.size.h_high (first-is d) (past_is d) (rw (to_z-of_z s.ranges.x0, to_z-of_z s.ranges.y0, to_z-of_z s.ranges.x1, to_z-of_z s.ranges.y1, to_z-of_z s.ranges.x2, to_z-of_z s.ranges.y2, to_z-of_z s.ranges.x3, to_z-of_z s.ranges.y3, s.requires.blank) at c.quad_rows.ensures)

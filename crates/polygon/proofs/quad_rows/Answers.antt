@@ -1,11 +1,6 @@
-use borrow.Author.Rules.{rules}
 use native.Mathlib.Omega.{arith}
-use Prim.Native.Nat.{◌-◌, ◌≤◌, ◌<◌, max}
-use mir.Syntax.{w32}
-use mir.Val.{to_z}
+use Prim.Native.Nat.{◌<◌}
 use mir.Facts.{to_z-of_z}
-use Rattle.polygon.specs.Steps.{Rows}
-use Rattle.polygon.specs.OneRow.{four, Done}
 use Rattle.polygon.specs.RowSteps.{rows_none, rows_more, rows_done}
 use Rattle.polygon.proofs.quad_rows.Goals as goal
 use Rattle.polygon.proofs.quad_rows.Goals.{After-quad_row-run}
@@ -17,7 +12,7 @@ loop-y-init c = (omega arith, omega arith, rows_none _ c.args.first c.args.out.n
 
 pub quad_row-run-requires : goal.quad_row-run-requires
 quad_row-run-requires c =
-    rw (to_z-of_z c.ranges.x0, to_z-of_z c.ranges.y0, to_z-of_z c.ranges.x1, to_z-of_z c.ranges.y1, to_z-of_z c.ranges.x2, to_z-of_z c.ranges.y2, to_z-of_z c.ranges.x3, to_z-of_z c.ranges.y3, to_z-of_z c.ranges.sign) (c.requires.sign, (c.requires.edges, (c.requires.columns, omega (arith, c.loop-y-test.true, c.requires.rows))))
+    rw (to_z-of_z c.ranges.x0, to_z-of_z c.ranges.y0, to_z-of_z c.ranges.x1, to_z-of_z c.ranges.y1, to_z-of_z c.ranges.x2, to_z-of_z c.ranges.y2, to_z-of_z c.ranges.x3, to_z-of_z c.ranges.y3, to_z-of_z c.ranges.sign) (record { sign = c.requires.sign; edges = c.requires.edges; columns = c.requires.columns; row = omega (arith, c.loop-y-test.true, c.requires.rows) })
 
 small : (c : After-quad_row-run) → (c.quad_row-run.result.left < 65536) × (c.quad_row-run.result.right < 65536)
 small c =

@@ -1,4 +1,4 @@
-use borrow.Author.Rules.{rules, sfits_of}
+use borrow.Author.Rules.{sfits_of}
 use lib.IntN.{◌-ℤ◌}
 use mir.Syntax.{w64}
 use mir.Val.{to_z, of_z}
@@ -12,19 +12,19 @@ use Rattle.polygon.proofs.side.Goals.{After-diff, After-diff-2, After-diff-3, Af
 -- the four differences, as they are read
 d1 : (c : After-diff) → Is (to_z w64 (of_z w64 c.diff.result)) (c.args.xj -ℤ c.args.xi) 16382
 d1 c =
-    ldr (sfits_of c.diff.type_inv) (simp (to_z-of_z, c.ranges.xj, c.ranges.xi) at c.diff.ensures) (w- c.requires.to.x c.requires.from.x)
+    ldr {w = w64} (sfits_of c.diff.type_inv) (simp (to_z-of_z, c.ranges.xj, c.ranges.xi) at c.diff.ensures) (w- c.requires.to.x c.requires.from.x)
 
 d2 : (c : After-diff-2) → Is (to_z w64 (of_z w64 c.diff-2.result)) (c.args.y -ℤ c.args.yi) 16382
 d2 c =
-    ldr (sfits_of c.diff-2.type_inv) (simp (to_z-of_z, c.ranges.y, c.ranges.yi) at c.diff-2.ensures) (w- c.requires.point.y c.requires.from.y)
+    ldr {w = w64} (sfits_of c.diff-2.type_inv) (simp (to_z-of_z, c.ranges.y, c.ranges.yi) at c.diff-2.ensures) (w- c.requires.point.y c.requires.from.y)
 
 d3 : (c : After-diff-3) → Is (to_z w64 (of_z w64 c.diff-3.result)) (c.args.yj -ℤ c.args.yi) 16382
 d3 c =
-    ldr (sfits_of c.diff-3.type_inv) (simp (to_z-of_z, c.ranges.yj, c.ranges.yi) at c.diff-3.ensures) (w- c.requires.to.y c.requires.from.y)
+    ldr {w = w64} (sfits_of c.diff-3.type_inv) (simp (to_z-of_z, c.ranges.yj, c.ranges.yi) at c.diff-3.ensures) (w- c.requires.to.y c.requires.from.y)
 
 d4 : (c : After-diff-4) → Is (to_z w64 (of_z w64 c.diff-4.result)) (c.args.x -ℤ c.args.xi) 16382
 d4 c =
-    ldr (sfits_of c.diff-4.type_inv) (simp (to_z-of_z, c.ranges.x, c.ranges.xi) at c.diff-4.ensures) (w- c.requires.point.x c.requires.from.x)
+    ldr {w = w64} (sfits_of c.diff-4.type_inv) (simp (to_z-of_z, c.ranges.x, c.ranges.xi) at c.diff-4.ensures) (w- c.requires.point.x c.requires.from.x)
 
 pub overflow_mul-result : goal.overflow_mul-result
 overflow_mul-result c = fits* tt (d1 (goal.at.overflow_mul-result c).After-diff) (d2 (goal.at.overflow_mul-result c).After-diff-2)

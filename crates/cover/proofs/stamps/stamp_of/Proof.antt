@@ -6,7 +6,7 @@ use Rattle.laws.specs.Bounds.{rd}
 use Rattle.cover.specs.declared.Kind.{Kind}
 use Rattle.cover.specs.Cover.{bad_places, places}
 use Rattle.cover.specs.CoverLaws.{AllBounded, places_bounded}
-use Rattle.cover.specs.Stamps.{Stamped, Begun}
+use Rattle.cover.specs.Stamps.{Stamped}
 use borrow.Author.Rules.{rules}
 use Rattle.cover.proofs.stamps.stamp_of.Statement.{statement}
 use Rattle.cover.proofs.stamps.stamp_of.Tie as tie
@@ -17,9 +17,6 @@ bounded s k e = subst (λ (t : Kind). AllBounded (places t)) e (places_bounded s
 
 good : (s : tie.Start) (k : Kind) → s.args.kind ≡ k → bad_places k ≡ false
 good s k e = subst (λ (t : Kind). bad_places t ≡ false) e s.requires.1.0
-
-begun : (s : tie.Start) (k : Kind) → s.args.kind ≡ k → Begun k s.args.left s.args.top s.args.w s.args.h
-begun s k e = subst (λ (t : Kind). Begun t s.args.left s.args.top s.args.w s.args.h) e s.requires.1.1
 
 stamped : (s : tie.Start) (k : Kind) (r : _) → s.args.kind ≡ k → Stamped k s.args.left s.args.top s.args.w s.args.h r → Stamped s.args.kind s.args.left s.args.top s.args.w s.args.h r
 stamped s k r e g = subst (λ (t : Kind). Stamped t s.args.left s.args.top s.args.w s.args.h r) (sym e) g
@@ -32,7 +29,7 @@ circle-stamp-requires c κs =
     let s = c.before.before.before in
     let e = c.before.kind.given.1 in
     let b = bounded s _ e in
-    (s.requires.0, rw (rd w32 tt b.0, rd w32 tt b.1.0, rd w32 tt b.1.1.0) (good s _ e, begun s _ e))
+    (s.requires.0, (rw (rd w32 tt b.0, rd w32 tt b.1.0, rd w32 tt b.1.1.0) (good s _ e), s.requires.1.1))
 
 enum-known-kind-2 : tie.Need-enum-known-kind-2
 enum-known-kind-2 c = search rules
@@ -42,7 +39,7 @@ triangle-stamp-requires c κs =
     let s = c.before.before.before in
     let e = c.before.kind2.given.1 in
     let b = bounded s _ e in
-    (s.requires.0, rw (rd w32 tt b.0, rd w32 tt b.1.0, rd w32 tt b.1.1.0, rd w32 tt b.1.1.1.0, rd w32 tt b.1.1.1.1.0, rd w32 tt b.1.1.1.1.1.0) (good s _ e, begun s _ e))
+    (s.requires.0, (rw (rd w32 tt b.0, rd w32 tt b.1.0, rd w32 tt b.1.1.0, rd w32 tt b.1.1.1.0, rd w32 tt b.1.1.1.1.0, rd w32 tt b.1.1.1.1.1.0) (good s _ e), s.requires.1.1))
 
 enum-known-kind-3 : tie.Need-enum-known-kind-3
 enum-known-kind-3 c = search rules
@@ -52,7 +49,7 @@ quad-stamp-requires c κs =
     let s = c.before.before.before in
     let e = c.before.kind3.given.1 in
     let b = bounded s _ e in
-    (s.requires.0, rw (rd w32 tt b.0, rd w32 tt b.1.0, rd w32 tt b.1.1.0, rd w32 tt b.1.1.1.0, rd w32 tt b.1.1.1.1.0, rd w32 tt b.1.1.1.1.1.0, rd w32 tt b.1.1.1.1.1.1.0, rd w32 tt b.1.1.1.1.1.1.1.0) (good s _ e, begun s _ e))
+    (s.requires.0, (rw (rd w32 tt b.0, rd w32 tt b.1.0, rd w32 tt b.1.1.0, rd w32 tt b.1.1.1.0, rd w32 tt b.1.1.1.1.0, rd w32 tt b.1.1.1.1.1.0, rd w32 tt b.1.1.1.1.1.1.0, rd w32 tt b.1.1.1.1.1.1.1.0) (good s _ e), s.requires.1.1))
 
 returns : tie.Need-returns
 returns c n =

@@ -5,7 +5,7 @@ use Rattle.laws.specs.Bounds.{ldw, arg, rd}
 use Rattle.cover.specs.declared.Kind.TheVariants.{Triangle}
 use Rattle.cover.specs.Cover.{places}
 use Rattle.cover.specs.CoverLaws.{AllBounded, places_bounded}
-use Rattle.cover.specs.StampLaws.{triangle_stamped, begun_low}
+use Rattle.cover.specs.StampLaws.{triangle_stamped}
 use Rattle.cover.proofs.stamps.triangle_stamp.Statement.{statement}
 use Rattle.cover.proofs.stamps.triangle_stamp.Tie as tie
 
@@ -15,8 +15,7 @@ bounded s = let a = s.args in places_bounded (Triangle a.x0 a.y0 a.x1 a.y1 a.x2 
 framed-requires : tie.Need-framed-requires
 framed-requires s κs =
     let b = bounded s in
-    let l = begun_low _ _ _ _ _ s.requires.0 s.requires.1.1 in
-    ((arg tt (ldw w32 tt b.0), arg tt (ldw w32 tt b.1.0), arg tt (ldw w32 tt b.1.1.0), arg tt (ldw w32 tt b.1.1.1.0), arg tt (ldw w32 tt b.1.1.1.1.0), arg tt (ldw w32 tt b.1.1.1.1.1.0), arg tt (ldw w32 tt b.1.1.1.1.0), arg tt (ldw w32 tt b.1.1.1.1.1.0)), (l.0, l.1, s.requires.0.w_high, s.requires.0.h_high))
+    ((arg tt (ldw w32 tt b.0), arg tt (ldw w32 tt b.1.0), arg tt (ldw w32 tt b.1.1.0), arg tt (ldw w32 tt b.1.1.1.0), arg tt (ldw w32 tt b.1.1.1.1.0), arg tt (ldw w32 tt b.1.1.1.1.1.0), arg tt (ldw w32 tt b.1.1.1.1.0), arg tt (ldw w32 tt b.1.1.1.1.1.0)), (s.requires.1.1.0, s.requires.1.1.1, s.requires.0.w_high, s.requires.0.h_high))
 
 framed-stamp-requires : tie.Need-framed-stamp-requires
 framed-stamp-requires c κs =

@@ -1,5 +1,4 @@
 use native.Mathlib.Omega.{arith}
-use borrow.Author.Rules.{rules}
 use mathlib.Core.Path.{◌≡◌, ◌∙◌, ap, subst}
 use Prim.Native.Nat.{ℕ, ◌*◌, ◌/◌, ◌^◌, ◌≤◌}
 use native.Mathlib.Nat.{mul-le-mul}
@@ -35,7 +34,7 @@ overflow_add-reached c = fits+ tt (ldw w32 tt c.requires.edge.start) (fall (goal
 -- what the number that was brought into its range, and the product, are
 module _ (d : After-brought-number) where
   abbrev start : Start
-  start = d.before.before.before.before.before
+  start = d.before.before.before.before.before.before
 
   abbrev cuts : Cuts (InnerOf start.args.sign (at start.args.xi start.args.yi) (at start.args.xj start.args.yj)) start.args.e
   cuts = start.requires.edge
@@ -78,10 +77,10 @@ pub returns-then-e : goal.returns-then-e
 returns-then-e c =
     let s = start (goal.at.returns-then-e c).After-brought-number in
     rw (c.larger.ensures, column-is (goal.at.returns-then-e c).After-brought-number)
-    (keeps_from _ (number (goal.at.returns-then-e c).After-brought-number) (cuts (goal.at.returns-then-e c).After-brought-number).height c.brought-number.result s.args.lo s.args.hi (cuts (goal.at.returns-then-e c).After-brought-number).some (held (goal.at.returns-then-e c).After-brought-number) s.requires.1.1 ((cuts (goal.at.returns-then-e c).After-brought-number).first c.if-e.true s.args.y))
+    (keeps_from _ (number (goal.at.returns-then-e c).After-brought-number) (cuts (goal.at.returns-then-e c).After-brought-number).height c.brought-number.result s.args.lo s.args.hi (cuts (goal.at.returns-then-e c).After-brought-number).some (held (goal.at.returns-then-e c).After-brought-number) s.requires.columns ((cuts (goal.at.returns-then-e c).After-brought-number).first c.if-e.true s.args.y))
 
 pub returns : goal.returns
 returns c =
     let s = start (goal.at.returns c).After-brought-number in
     rw (c.smaller.ensures, column-is (goal.at.returns c).After-brought-number)
-    (keeps_to _ (number (goal.at.returns c).After-brought-number) (cuts (goal.at.returns c).After-brought-number).height c.brought-number.result s.args.lo s.args.hi (cuts (goal.at.returns c).After-brought-number).some (held (goal.at.returns c).After-brought-number) s.requires.1.1 ((cuts (goal.at.returns c).After-brought-number).last c.if-e.false s.args.y))
+    (keeps_to _ (number (goal.at.returns c).After-brought-number) (cuts (goal.at.returns c).After-brought-number).height c.brought-number.result s.args.lo s.args.hi (cuts (goal.at.returns c).After-brought-number).some (held (goal.at.returns c).After-brought-number) s.requires.columns ((cuts (goal.at.returns c).After-brought-number).last c.if-e.false s.args.y))

@@ -79,7 +79,12 @@ pub overflow_mul-sign : goal.overflow_mul-sign
 overflow_mul-sign c = fits* tt (ld c.ranges.sign c.requires.sign) (base (goal.at.overflow_mul-sign c).Start).is
 
 pub sloped_edge-requires : goal.sloped_edge-requires
-sloped_edge-requires c = (λ e. c.if-slope-eq0.false (ap (of_z w32) (sym (to_z-of_z (mul-slope c.before)) ∙ e)), (arg tt (slope (goal.at.sloped_edge-requires c).Start).is, (arg tt (offset (goal.at.sloped_edge-requires c).Start).is, arg tt (fall (goal.at.sloped_edge-requires c).Start).is)))
+sloped_edge-requires c = record {
+  some = λ e. c.if-slope-eq0.false (ap (of_z w32) (sym (to_z-of_z {w = w32} (fits* tt (ld c.ranges.sign c.requires.sign) (up (goal.at.sloped_edge-requires c).Start).is)) ∙ e));
+  slope = arg tt (slope (goal.at.sloped_edge-requires c).Start).is;
+  offset = arg tt (offset (goal.at.sloped_edge-requires c).Start).is;
+  fall = arg tt (fall (goal.at.sloped_edge-requires c).Start).is;
+}
 
 pub returns : goal.returns
 returns c =

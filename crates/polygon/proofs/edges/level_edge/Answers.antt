@@ -1,4 +1,4 @@
-use borrow.Author.Rules.{rules, sfits_of}
+use borrow.Author.Rules.{sfits_of}
 use mathlib.Core.Path.{refl}
 use lib.IntN.{pos}
 use mir.Syntax.{w32}

@@ -1,4 +1,3 @@
-use borrow.Author.Rules.{rules}
 use native.Mathlib.Omega.{arith}
 use native.Mathlib.Nat.{mod-eq_of_lt, pow-le-pow_right}
 use mathlib.Core.Path.{◌≡◌, refl, ap, ◌∙◌}
@@ -68,17 +67,17 @@ pub overflow_mul-most : goal.overflow_mul-most
 overflow_mul-most c = omega (arith, is-tall (a (goal.at.overflow_mul-most c).After-digits_of-digits), few (a (goal.at.overflow_mul-most c).After-digits_of-digits))
 
 pub start_of-start-requires : goal.start_of-start-requires
-start_of-start-requires c = let s = (a (goal.at.start_of-start-requires c).After-digits_of-digits).before in (arg tt (ld s.fits.a s.requires.1.0), arg tt (ld s.fits.c s.requires.1.1.0))
+start_of-start-requires c = (arg tt (ld c.ranges.a c.requires.slope), arg tt (ld c.ranges.c c.requires.offset))
 
 pub step_of-step-requires : goal.step_of-step-requires
-step_of-step-requires c = let s = (a (goal.at.step_of-step-requires c).After-digits_of-digits).before in arg tt (ld s.fits.s s.requires.1.1.1)
+step_of-step-requires c = arg tt (ld c.ranges.s c.requires.fall)
 
 pub returns : goal.returns
 returns c =
     let t = a (goal.at.returns c).After-digits_of-digits in
     let s = t.before in
     let g = s.args in
-    cuts_half g.a g.c g.s _ s.requires.0 s.requires.1.0 s.requires.1.1.0 s.requires.1.1.1 (lt_z (pos 0) g.a) refl
-    (read w32 c.start_of-start.result c.start_of-start.type_inv ∙ (rw (to_z-of_z s.fits.a, to_z-of_z s.fits.c) at c.start_of-start.ensures))
-    (read w32 c.step_of-step.result c.step_of-step.type_inv ∙ (rw (to_z-of_z s.fits.a, to_z-of_z s.fits.s) at c.step_of-step.ensures))
-    (ap (λ (z : ℤ). lt_z (pos 0) z) (to_z-of_z s.fits.a)) (digits-is (goal.at.returns c).After-digits_of-digits) (times-is (goal.at.returns c).After-digits_of-digits) (ap (λ (h : ℕ). h * 257) (is-tall t))
+    cuts_half g.a g.c g.s _ s.requires.some s.requires.slope s.requires.offset s.requires.fall (lt_z (pos 0) g.a) refl
+    (read w32 c.start_of-start.result c.start_of-start.type_inv ∙ (rw (to_z-of_z s.ranges.a, to_z-of_z s.ranges.c) at c.start_of-start.ensures))
+    (read w32 c.step_of-step.result c.step_of-step.type_inv ∙ (rw (to_z-of_z s.ranges.a, to_z-of_z s.ranges.s) at c.step_of-step.ensures))
+    (ap (λ (z : ℤ). lt_z (pos 0) z) (to_z-of_z s.ranges.a)) (digits-is (goal.at.returns c).After-digits_of-digits) (times-is (goal.at.returns c).After-digits_of-digits) (ap (λ (h : ℕ). h * 257) (is-tall t))

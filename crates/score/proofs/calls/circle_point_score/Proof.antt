@@ -49,14 +49,17 @@ module _ (c : tie.Else2) where
 first-column-requires : tie.Need-first-column-requires
 first-column-requires c κs = (asked c).column
 
+sub-if3 : tie.Need-overflow-sub-if3
+sub-if3 c = omega (arith, c.before.if2.false)
+
 circle-stamp-requires : tie.Need-circle-stamp-requires
-circle-stamp-requires c κs = (asked c.before).stamp _ c.first-column.ensures
+circle-stamp-requires c κs = (asked c.before.before).stamp _ c.if3.true
 
 push-stamp-requires : tie.Need-push-stamp-requires
 push-stamp-requires c κs =
     let s = c.before in
     let u = s.before in
-    (asked u.before).added _ _ u.first-column.ensures (s.circle-stamp.ensures (λ q. omega (arith, c.if3.true, q)))
+    (asked u.before.before).added _ _ u.if3.true (s.circle-stamp.ensures (λ q. omega (arith, c.if4.true, q)))
 
 unpaired-requires : tie.Need-unpaired-requires
 unpaired-requires c κs = search rules
@@ -74,17 +77,17 @@ returns-2 c =
     let v = d.before in
     let p = v.before in
     let s = p.before in
-    let e = s.before.before in
+    let e = s.before.before.before in
     let t = e.before.before in
     let n = t.before.before in
     let a = t.before.before.before.before.before.before.args in
     let z = t.before.before.before.before.before.before in
     simp (to_z-of_z, z.ranges.cx, z.ranges.cy, z.ranges.r) at (
     point_told _ a.request n.asked.result a.levels.now a.w a.h n.asked.ensures a.target.now a.canvas.now (t.before.usual-pictures.ensures t.if1.true)
-    d.unpaired.result m.finalize.result c.done.result (d.unpaired.ensures ∙ v.push-stamp.ensures ∙ stamp_is_points _ _ _ a.w a.h _ (s.circle-stamp.ensures (λ q. omega (arith, p.if3.true, q))) a.target.now a.canvas.now) m.finalize.ensures c.done.ensures)
+    d.unpaired.result m.finalize.result c.done.result (d.unpaired.ensures ∙ v.push-stamp.ensures ∙ stamp_is_points _ _ _ a.w a.h _ (s.circle-stamp.ensures (λ q. omega (arith, p.if4.true, q))) a.target.now a.canvas.now) m.finalize.ensures c.done.ensures)
 
 reached-sums-requires : tie.Need-reached-sums-requires
-reached-sums-requires c κs = (asked c.before.before.before).reached
+reached-sums-requires c κs = (asked c.before.before).reached
 
 finalize-requires-2 : tie.Need-finalize-requires-2
 finalize-requires-2 c κs = search rules
@@ -96,7 +99,7 @@ returns-3 : tie.Need-returns-3
 returns-3 c =
     let m = c.before in
     let d = m.before in
-    let t = d.before.before.before.before.before.before in
+    let t = d.before.before.before.before.before in
     let n = t.before.before in
     let a = t.before.before.before.before.before.before.args in
     let z = t.before.before.before.before.before.before in
@@ -120,6 +123,7 @@ circle-point-score-spec =
     no-score-requires
     returns
     first-column-requires
+    sub-if3
     circle-stamp-requires
     push-stamp-requires
     unpaired-requires

@@ -45,14 +45,17 @@ module _ (c : tie.Else2) where
 first-column-requires : tie.Need-first-column-requires
 first-column-requires c κs = (asked c).column
 
+sub-if3 : tie.Need-overflow-sub-if3
+sub-if3 c = omega (arith, c.before.if2.false)
+
 circle-stamp-requires : tie.Need-circle-stamp-requires
-circle-stamp-requires c κs = (asked c.before).stamp _ c.first-column.ensures
+circle-stamp-requires c κs = (asked c.before.before).stamp _ c.if3.true
 
 push-stamp-requires : tie.Need-push-stamp-requires
 push-stamp-requires c κs =
     let s = c.before in
     let u = s.before in
-    (asked u.before).added _ _ u.first-column.ensures (s.circle-stamp.ensures (λ q. omega (arith, c.if3.true, q)))
+    (asked u.before.before).added _ _ u.if3.true (s.circle-stamp.ensures (λ q. omega (arith, c.if4.true, q)))
 
 unpaired-requires : tie.Need-unpaired-requires
 unpaired-requires c κs = search rules
@@ -62,20 +65,20 @@ returns-2 d =
     let v = d.before in
     let p = v.before in
     let s = p.before in
-    let e = s.before.before in
+    let e = s.before.before.before in
     let t = e.before.before in
     let a = t.before.before.before.before.args in
     let z = t.before.before.before.before in
     simp (to_z-of_z, z.ranges.cx, z.ranges.cy, z.ranges.r) at (
     point_sums-told _ a.w a.h a.target.now a.canvas.now (t.before.usual-pictures.ensures t.if1.true)
-    d.unpaired.result (d.unpaired.ensures ∙ v.push-stamp.ensures ∙ stamp_is_points _ _ _ a.w a.h _ (s.circle-stamp.ensures (λ q. omega (arith, p.if3.true, q))) a.target.now a.canvas.now))
+    d.unpaired.result (d.unpaired.ensures ∙ v.push-stamp.ensures ∙ stamp_is_points _ _ _ a.w a.h _ (s.circle-stamp.ensures (λ q. omega (arith, p.if4.true, q))) a.target.now a.canvas.now))
 
 reached-sums-requires : tie.Need-reached-sums-requires
-reached-sums-requires c κs = (asked c.before.before.before).reached
+reached-sums-requires c κs = (asked c.before.before).reached
 
 returns-3 : tie.Need-returns-3
 returns-3 d =
-    let t = d.before.before.before.before.before.before in
+    let t = d.before.before.before.before.before in
     let a = t.before.before.before.before.args in
     let z = t.before.before.before.before in
     simp (to_z-of_z, z.ranges.cx, z.ranges.cy, z.ranges.r) at (
@@ -100,6 +103,7 @@ collect-circle-sums-spec =
     no-sums-requires
     returns
     first-column-requires
+    sub-if3
     circle-stamp-requires
     push-stamp-requires
     unpaired-requires

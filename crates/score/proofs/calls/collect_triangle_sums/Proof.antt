@@ -49,13 +49,13 @@ sub-if3 : tie.Need-overflow-sub-if3
 sub-if3 c = omega (arith, c.before.if2.false)
 
 triangle-stamp-requires : tie.Need-triangle-stamp-requires
-triangle-stamp-requires c κs = (asked c.before.before).stamp _ c.before.first-column.ensures
+triangle-stamp-requires c κs = (asked c.before.before).stamp _ c.if3.true
 
 push-stamp-requires : tie.Need-push-stamp-requires
 push-stamp-requires c κs =
     let s = c.before in
     let u = s.before in
-    (asked u.before.before).added _ _ u.before.first-column.ensures (s.triangle-stamp.ensures (λ q. omega (arith, c.if4.true, q)))
+    (asked u.before.before).added _ _ u.if3.true (s.triangle-stamp.ensures (λ q. omega (arith, c.if4.true, q)))
 
 unpaired-requires : tie.Need-unpaired-requires
 unpaired-requires c κs = search rules

@@ -47,13 +47,13 @@ sub-if3 : tie.Need-overflow-sub-if3
 sub-if3 c = omega (arith, c.before.if2.false)
 
 stamp-of-requires : tie.Need-stamp-of-requires
-stamp-of-requires c κs = (asked c.before.before).stamp _ c.before.first-column.ensures
+stamp-of-requires c κs = (asked c.before.before).stamp _ c.if3.true
 
 add-stamp-requires : tie.Need-add-stamp-requires
 add-stamp-requires c κs =
     let s = c.before in
     let u = s.before in
-    (asked u.before.before).added _ _ u.before.first-column.ensures (s.stamp-of.ensures (λ q. omega (arith, c.if4.true, q)))
+    (asked u.before.before).added _ _ u.if3.true (s.stamp-of.ensures (λ q. omega (arith, c.if4.true, q)))
 
 finalize-requires : tie.Need-finalize-requires
 finalize-requires c κs = search rules

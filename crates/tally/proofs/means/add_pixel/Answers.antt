@@ -1,6 +1,5 @@
 use Prim.Native.Nat.{◌+◌, ◌*◌}
 use Rattle.tally.specs.TallyLaws.{sums-more, number-before}
-use borrow.Author.Rules.{rules}
 use native.Mathlib.Omega.{arith}
 use Rattle.tally.proofs.means.add_pixel.Goals as goal
 

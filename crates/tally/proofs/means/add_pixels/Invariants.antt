@@ -1,9 +1,6 @@
-use mathlib.Core.Path.{◌≡◌, ap, ◌∙◌}
-use Prim.Native.Nat.{◌+◌, ◌*◌, ◌-◌, ◌≤◌}
+use mathlib.Core.Path.{◌≡◌}
+use Prim.Native.Nat.{◌-◌, ◌≤◌}
 use Rattle.tally.specs.Tally.{sums_to}
-use Rattle.tally.specs.TallyLaws.{within_first}
-use borrow.Author.Rules.{rules}
-use native.Mathlib.Omega.{arith}
 use Rattle.tally.proofs.means.add_pixels.Given as goal
 
 abbrev pub invariant-loop-i : goal.invariant-loop-i

@@ -1,15 +1,11 @@
-use mathlib.Core.Path.{◌≡◌, sym, ◌∙◌}
-use Prim.Native.Nat.{◌+◌, ◌*◌, ◌-◌, ◌≤◌}
-use lib.Dec.{T}
+use mathlib.Core.Path.{sym, ◌∙◌}
+use Prim.Native.Nat.{◌+◌, ◌*◌}
 use lib.Ieee.{of_bits}
 use lib.ListN.{take}
-use borrow.Author.Tests.{not-true, not-false}
 use Rattle.laws.specs.Bools.{true_is}
 use Rattle.laws.specs.Every.{every}
 use Rattle.float.specs.Within.{all_within}
-use Rattle.tally.specs.Tally.{sums_to}
 use Rattle.tally.specs.TallyLaws.{sums_none, sums_beyond, sums-done, first_bad, first-all}
-use borrow.Author.Rules.{rules}
 use native.Mathlib.Omega.{arith}
 use Rattle.tally.proofs.means.sums_within.Goals as goal
 
@@ -26,17 +22,17 @@ pub returns-then-not-part_within : goal.returns-then-not-part_within
 returns-then-not-part_within c =
     let a = c.args in
     let part = c.part_within in
-    sums_beyond a.target.now a.n (first_bad a.target.now ((c.loop-i.i + 16) * 3) (sym part.ensures ∙ not-true part.result c.if-not-part_within.true))
+    sums_beyond a.target.now a.n (first_bad a.target.now ((c.loop-i.i + 16) * 3) (sym part.ensures ∙ c.if-not-part_within.true))
 
 pub add_pixels-sums-requires : goal.add_pixels-sums-requires
 add_pixels-sums-requires c =
     let l = c.loop-i in
-    let good = sym c.part_within.ensures ∙ not-false c.part_within.result c.if-not-part_within.false in
-    ((omega arith, omega (arith, c.requires), true_is (all_within (take ((l.i + 16) * 3) c.args.target.now)) good), l.invariant.1)
+    let good = sym c.part_within.ensures ∙ c.if-not-part_within.false in
+    record { from_le_to = (omega arith, omega (arith, c.requires), true_is (all_within (take ((l.i + 16) * 3) c.args.target.now)) good); before_value = l.invariant.1 }
 
 pub loop-i-preserved : goal.loop-i-preserved
 loop-i-preserved c =
-    let good = sym c.part_within.ensures ∙ not-false c.part_within.result c.if-not-part_within.false in
+    let good = sym c.part_within.ensures ∙ c.if-not-part_within.false in
     (omega arith, c.add_pixels-sums.ensures, true_is (all_within (take ((c.loop-i.i + 16) * 3) c.args.target.now)) good)
 
 pub part_within-requires-2 : goal.part_within-requires-2
@@ -46,19 +42,19 @@ pub returns-then-not-part_within-2 : goal.returns-then-not-part_within-2
 returns-then-not-part_within-2 c =
     let a = c.args in
     let part = c.part_within-2 in
-    sums_beyond a.target.now a.n (first_bad a.target.now (a.n * 3) (sym part.ensures ∙ not-true part.result c.if-not-part_within-2.true))
+    sums_beyond a.target.now a.n (first_bad a.target.now (a.n * 3) (sym part.ensures ∙ c.if-not-part_within-2.true))
 
 pub add_pixels-sums-requires-2 : goal.add_pixels-sums-requires-2
 add_pixels-sums-requires-2 c =
     let a = c.args in
     let l = c.loop-i in
-    let good = sym c.part_within-2.ensures ∙ not-false c.part_within-2.result c.if-not-part_within-2.false in
-    ((l.invariant.0, omega (arith, c.requires), true_is (all_within (take (a.n * 3) a.target.now)) good), l.invariant.1)
+    let good = sym c.part_within-2.ensures ∙ c.if-not-part_within-2.false in
+    record { from_le_to = (l.invariant.0, omega (arith, c.requires), true_is (all_within (take (a.n * 3) a.target.now)) good); before_value = l.invariant.1 }
 
 pub returns : goal.returns
 returns c =
     let a = c.args in
     let t = a.target.now in
     let part = c.part_within-2 in
-    let good = sym part.ensures ∙ not-false part.result c.if-not-part_within-2.false in
+    let good = sym part.ensures ∙ c.if-not-part_within-2.false in
     sums-done t a.n _ c.add_pixels-sums-2.ensures (first-all t (a.n * 3) (omega (arith, c.requires)) (true_is (all_within (take (a.n * 3) t)) good))

@@ -1,11 +1,9 @@
 use mathlib.Core.Path.{◌≡◌, sym}
-use Prim.Native.Nat.{◌≤◌, ◌-◌}
 use lib.ListN.{take}
 use lib.Ieee.{nan}
 use Rattle.laws.specs.Bools.{is_true}
 use Rattle.laws.specs.EveryLaws.{every-step}
 use Rattle.float.specs.Within.{within, all_within}
-use borrow.Author.Rules.{rules}
 use native.Mathlib.Omega.{arith}
 use Rattle.tally.proofs.parts.each_within.Goals as goal
 

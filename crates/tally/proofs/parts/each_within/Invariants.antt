@@ -1,12 +1,7 @@
-use mathlib.Core.Path.{◌≡◌, sym}
+use mathlib.Core.Path.{◌≡◌}
 use Prim.Native.Nat.{◌≤◌, ◌-◌}
 use lib.ListN.{take}
-use lib.Ieee.{nan}
-use Rattle.laws.specs.Bools.{is_true}
-use Rattle.laws.specs.EveryLaws.{every-step}
-use Rattle.float.specs.Within.{within, all_within}
-use borrow.Author.Rules.{rules}
-use native.Mathlib.Omega.{arith}
+use Rattle.float.specs.Within.{all_within}
 use Rattle.tally.proofs.parts.each_within.Given as goal
 
 abbrev pub invariant-loop-k : goal.invariant-loop-k

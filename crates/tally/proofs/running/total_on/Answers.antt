@@ -1,9 +1,8 @@
 use mathlib.Core.Path.{◌≡◌, ap, ◌∙◌}
-use Prim.Native.Nat.{◌+◌, ◌-◌, ◌≤◌}
+use Prim.Native.Nat.{◌+◌}
 use Rattle.tally.specs.TallyLaws.{within-at}
 use Rattle.tally.specs.Rows.{total_on}
 use Rattle.tally.specs.RowTotals.{on_none, on_more}
-use borrow.Author.Rules.{rules}
 use native.Mathlib.Omega.{arith}
 use Rattle.tally.proofs.running.total_on.Goals as goal
 

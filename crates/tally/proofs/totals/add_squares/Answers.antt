@@ -1,8 +1,5 @@
-use mathlib.Core.Path.{◌≡◌}
-use Prim.Native.Nat.{◌+◌, ◌-◌, ◌≤◌}
-use Rattle.tally.specs.Tally.{total_to}
+use Prim.Native.Nat.{◌+◌, ◌≤◌}
 use Rattle.tally.specs.TallyLaws.{within_first}
-use borrow.Author.Rules.{rules}
 use native.Mathlib.Omega.{arith}
 use Rattle.tally.proofs.totals.add_squares.Goals as goal
 
@@ -16,7 +13,7 @@ add_each-sum-requires c =
     let a = c.args in
     let l = c.loop-k in
     let e : l.k + 8 ≤ a.to = omega arith in
-    ((omega arith, omega arith, omega arith), ((within_first a.target.now (l.k + 8) a.to e c.requires.t.0, within_first a.canvas.now (l.k + 8) a.to e c.requires.t.1), l.invariant.1))
+    record { from_le_to = (omega arith, omega arith, omega arith); t = (within_first a.target.now (l.k + 8) a.to e c.requires.t.0, within_first a.canvas.now (l.k + 8) a.to e c.requires.t.1); before_value = l.invariant.1 }
 
 pub loop-k-preserved : goal.loop-k-preserved
 loop-k-preserved c = (omega arith, c.add_each-sum.ensures)
@@ -24,7 +21,7 @@ loop-k-preserved c = (omega arith, c.add_each-sum.ensures)
 pub add_each-requires : goal.add_each-requires
 add_each-requires c =
     let l = c.loop-k in
-    ((l.invariant.0, c.requires.from_le_to.1, c.requires.from_le_to.2), (c.requires.t, l.invariant.1))
+    record { from_le_to = (l.invariant.0, c.requires.from_le_to.1, c.requires.from_le_to.2); t = c.requires.t; before_value = l.invariant.1 }
 
 pub returns : goal.returns
 returns c = c.add_each.ensures

@@ -1,9 +1,6 @@
 use mathlib.Core.Path.{◌≡◌}
-use Prim.Native.Nat.{◌+◌, ◌-◌, ◌≤◌}
+use Prim.Native.Nat.{◌-◌, ◌≤◌}
 use Rattle.tally.specs.Tally.{total_to}
-use Rattle.tally.specs.TallyLaws.{within_first}
-use borrow.Author.Rules.{rules}
-use native.Mathlib.Omega.{arith}
 use Rattle.tally.proofs.totals.add_squares.Given as goal
 
 abbrev pub invariant-loop-k : goal.invariant-loop-k

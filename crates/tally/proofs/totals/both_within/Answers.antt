@@ -1,14 +1,11 @@
 use mathlib.Core.Path.{◌≡◌, sym, ap₂}
 use mathlib.Core.Bool.{◌&&◌}
-use Prim.Native.Nat.{◌≤◌, ◌<◌, ◌-◌}
 use lib.Bits.{bit_or}
-use lib.Dec.{T}
 use lib.ListN.{take}
 use lib.Ieee.Fits.{and_i}
 use Rattle.laws.specs.Bools.{is_true}
 use Rattle.float.specs.Within.{all_within}
 use Rattle.float.specs.MarksLaws.{or_low, one_more}
-use borrow.Author.Rules.{rules}
 use native.Mathlib.Omega.{arith}
 use Rattle.tally.proofs.totals.both_within.Goals as goal
 
@@ -43,12 +40,12 @@ returns-then-seen-lt2147483648 c =
 pub each_within-requires : goal.each_within-requires
 each_within-requires c =
     let s = c.requires in
-    (s.0.0, s.0.1, s.1.0)
+    (s.from_le_to.0, s.from_le_to.1, s.t.0)
 
 pub each_within-requires-2 : goal.each_within-requires-2
 each_within-requires-2 c =
     let s = c.requires in
-    (s.0.0, s.0.2, s.1.1)
+    (s.from_le_to.0, s.from_le_to.2, s.t.1)
 
 pub returns : goal.returns
 returns c = ap₂ ◌&&◌ c.each_within.ensures c.each_within-2.ensures

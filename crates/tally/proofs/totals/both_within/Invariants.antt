@@ -1,15 +1,7 @@
-use mathlib.Core.Path.{◌≡◌, sym, ap₂}
-use mathlib.Core.Bool.{◌&&◌}
 use Prim.Native.Nat.{◌≤◌, ◌<◌, ◌-◌}
-use lib.Bits.{bit_or}
 use lib.Dec.{T}
 use lib.ListN.{take}
-use lib.Ieee.Fits.{and_i}
-use Rattle.laws.specs.Bools.{is_true}
 use Rattle.float.specs.Within.{all_within}
-use Rattle.float.specs.MarksLaws.{or_low, one_more}
-use borrow.Author.Rules.{rules}
-use native.Mathlib.Omega.{arith}
 use Rattle.tally.proofs.totals.both_within.Given as goal
 
 abbrev pub invariant-loop-k : goal.invariant-loop-k

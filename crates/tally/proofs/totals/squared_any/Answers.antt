@@ -1,4 +1,3 @@
-use borrow.Author.Rules.{rules}
 use Rattle.tally.proofs.totals.squared_any.Goals as goal
 
 -- The square of the difference.

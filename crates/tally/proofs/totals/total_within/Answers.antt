@@ -1,15 +1,10 @@
-use mathlib.Core.Path.{◌≡◌, refl, sym, ◌∙◌}
-use Prim.Native.Nat.{◌≤◌, ◌-◌}
-use lib.Dec.{T}
+use mathlib.Core.Path.{refl, sym, ◌∙◌}
 use lib.Ieee.{of_bits}
-use lib.ListN.{length, take}
-use borrow.Author.Tests.{not-true, not-false}
+use lib.ListN.{take}
 use Rattle.laws.specs.Bools.{true_is, and_left, and_right}
 use Rattle.laws.specs.Every.{every}
 use Rattle.float.specs.Within.{all_within}
-use Rattle.tally.specs.Tally.{total_to}
 use Rattle.tally.specs.TallyLaws.{total-none, total-all, total_beyond, total-done, part_bad, part-all}
-use borrow.Author.Rules.{rules}
 use native.Mathlib.Omega.{arith}
 use Rattle.tally.proofs.totals.total_within.Goals as goal
 
@@ -31,7 +26,7 @@ returns-then-not-both_within c =
     let g = c.args in
     let t = g.target.now in
     let k = g.canvas.now in
-    let bad = part_bad t k c.part_end-e.result (sym c.both_within.ensures ∙ not-true c.both_within.result c.if-not-both_within.true) in
+    let bad = part_bad t k c.part_end-e.result (sym c.both_within.ensures ∙ c.if-not-both_within.true) in
     total_beyond t k bad
 
 pub add_squares-sum-requires : goal.add_squares-sum-requires
@@ -40,10 +35,10 @@ add_squares-sum-requires c =
     let r = c.part_end-e.result in
     let e = c.part_end-e.ensures in
     let i = c.loop-i.invariant in
-    let both = sym c.both_within.ensures ∙ not-false c.both_within.result c.if-not-both_within.false in
+    let both = sym c.both_within.ensures ∙ c.if-not-both_within.false in
     let t = all_within (take r g.target.now) in
     let k = all_within (take r g.canvas.now) in
-    ((omega (arith, e.0), omega (arith, e.1), omega (arith, e.1)), ((true_is t (and_left t k both), true_is k (and_right t k both)), i.3))
+    record { from_le_to = (omega (arith, e.0), omega (arith, e.1), omega (arith, e.1)); t = (true_is t (and_left t k both), true_is k (and_right t k both)); before_value = i.3 }
 
 pub loop-i-smaller : goal.loop-i-smaller
 loop-i-smaller c = let e = c.part_end-e.ensures in omega (arith, e.0, e.1)
@@ -54,7 +49,7 @@ loop-i-preserved c =
     let r = c.part_end-e.result in
     let e = c.part_end-e.ensures in
     let i = c.loop-i.invariant in
-    let both = sym c.both_within.ensures ∙ not-false c.both_within.result c.if-not-both_within.false in
+    let both = sym c.both_within.ensures ∙ c.if-not-both_within.false in
     let t = all_within (take r g.target.now) in
     let k = all_within (take r g.canvas.now) in
     (omega (arith, e.1), i.1, i.2, c.add_squares-sum.ensures, true_is t (and_left t k both), true_is k (and_right t k both))

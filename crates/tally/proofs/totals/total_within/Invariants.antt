@@ -1,16 +1,9 @@
-use mathlib.Core.Path.{◌≡◌, refl, sym, ◌∙◌}
+use mathlib.Core.Path.{◌≡◌}
 use Prim.Native.Nat.{◌≤◌, ◌-◌}
 use lib.Dec.{T}
-use lib.Ieee.{of_bits}
 use lib.ListN.{length, take}
-use borrow.Author.Tests.{not-true, not-false}
-use Rattle.laws.specs.Bools.{true_is, and_left, and_right}
-use Rattle.laws.specs.Every.{every}
 use Rattle.float.specs.Within.{all_within}
 use Rattle.tally.specs.Tally.{total_to}
-use Rattle.tally.specs.TallyLaws.{total-none, total-all, total_beyond, total-done, part_bad, part-all}
-use borrow.Author.Rules.{rules}
-use native.Mathlib.Omega.{arith}
 use Rattle.tally.proofs.totals.total_within.Given as goal
 
 abbrev pub invariant-loop-i : goal.invariant-loop-i
