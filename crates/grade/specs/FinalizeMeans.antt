@@ -1,7 +1,7 @@
 -- Laws: `finalize`'s two errors, their terms read in whole numbers, are the squared errors of the pixels, added up: as they are, and with the colour drawn over them.
-use Rattle.std.specs.Prelude.{◌≡◌, List, [], ◌∷◌, ℤ, Float}
+use Rattle.std.specs.Prelude.{◌≡◌, [], ◌∷◌, ℤ, Float}
 use Rattle.std.proofs.Math.Path.{refl, ap}
-use Rattle.std.proofs.Common.{sym, ◌∙◌, add-one}
+use Rattle.std.proofs.Common.{◌∙◌, add-one}
 use Prim.Native.Nat.{ℕ, zero, suc}
 use Rattle.std.proofs.Math.IntN.{pos, ◌+ℤ◌, ◌-ℤ◌, ◌*ℤ◌}
 use Rattle.laws.specs.Poly.{x, c, ◌⊞◌, ◌⊟◌, ◌⊠◌, ring}

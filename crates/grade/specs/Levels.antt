@@ -1,6 +1,6 @@
 -- Rules: document 01, "Level bits b: n = 2^b; n = 1 gives 0.20, else 0.20 + (0.90 - 0.20)·i/(n-1) in f32, left to right.
 -- Of 64 places the unused are +0." Each operation is rounded once.
-use Rattle.std.specs.Prelude.{◌≡◌, Bool, true, false, not, cond, List, [], ◌∷◌, ℕ, ◌-◌, ◌^◌, eqb, ltb, length, pos, Float}
+use Rattle.std.specs.Prelude.{◌≡◌, false, not, cond, List, [], ◌∷◌, ℕ, ◌-◌, ◌^◌, eqb, ltb, length, pos, Float}
 use Rattle.std.specs.Float.{binary32}
 use Rattle.std.specs.Float.Ieee.{round, of_int, add, sub, mul, div}
 use Rattle.laws.specs.Tab.{tab}

@@ -3,6 +3,9 @@
 // A result that is a NaN is compared as "is a NaN": both sides are put into the one form that float::bits32 and bits64 give.
 #![tactic(auto)]
 
+use std::rt::Files;
+use std::{fs, io};
+
 // A line as far as it is read: the last three words before the one that is being read, and the counts so far.
 #[derive(Clone, Copy)]
 struct Reading {
@@ -63,8 +66,8 @@ fn ended(r: Reading, op: u8) -> Reading {
         b: 0,
         c: 0,
         word: 0,
-        lines: std::num::wrapping_add_u64(r.lines, 1),
-        differences: std::num::wrapping_add_u64(r.differences, wrong),
+        lines: r.lines.wrapping_add(1),
+        differences: r.differences.wrapping_add(wrong),
     }
 }
 
@@ -110,7 +113,7 @@ fn read(r: Reading, op: u8, byte: u8) -> Reading {
         c: r.c,
         word: r.word,
         lines: r.lines,
-        differences: std::num::wrapping_add_u64(r.differences, 1),
+        differences: r.differences.wrapping_add(1),
     }
 }
 
@@ -123,36 +126,26 @@ fn compare(text: &[u8], op: u8) -> Reading {
         lines: 0,
         differences: 0,
     };
-    let mut i = 0;
-    while i < text.len() {
-        r = read(r, op, text[i]);
-        i += 1;
+    for byte in text {
+        r = read(r, op, *byte);
     }
     r
 }
 
-fn run(name: &[u8], op: u8) {
-    let fd = os::open_read(name);
-    let mut buf = io::large_buffer();
-    let n = io::read_full(fd, &mut buf);
-    let r = compare(&buf[..n], op);
-    libc::close(fd);
-    show::text(name);
-    show::text(b": ");
-    show::unsigned(r.lines);
-    show::text(b" lines, ");
-    show::unsigned(r.differences);
-    show::text(b" differences\n");
+fn run(rt: &(impl Files + Alloc + Print), name: &str, op: u8) -> io::Result<()> {
+    let text = fs::read(rt, name)?;
+    let r = compare(&text, op);
+    println!(rt; "{name}: {} lines, {} differences", r.lines, r.differences)
 }
 
-fn main() {
-    run(b"f64_to_f32.txt", 0);
-    run(b"f32_to_f64.txt", 1);
-    run(b"f32_add.txt", 2);
-    run(b"f32_sub.txt", 3);
-    run(b"f32_mul.txt", 4);
-    run(b"f64_add.txt", 5);
-    run(b"f64_sub.txt", 6);
-    run(b"f64_mul.txt", 7);
-    run(b"f64_div.txt", 8);
+fn main(rt: HostRuntime) -> io::Result<()> {
+    run(&rt, "f64_to_f32.txt", 0)?;
+    run(&rt, "f32_to_f64.txt", 1)?;
+    run(&rt, "f32_add.txt", 2)?;
+    run(&rt, "f32_sub.txt", 3)?;
+    run(&rt, "f32_mul.txt", 4)?;
+    run(&rt, "f64_add.txt", 5)?;
+    run(&rt, "f64_sub.txt", 6)?;
+    run(&rt, "f64_mul.txt", 7)?;
+    run(&rt, "f64_div.txt", 8)
 }

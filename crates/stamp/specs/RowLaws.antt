@@ -1,9 +1,9 @@
 -- Laws: the first and the last digit of a row that is 1, by the zeros before and behind them.
-use Rattle.std.specs.Prelude.{◌≡◌, ℕ, zero, suc, ◌+◌, ◌-◌, ◌<◌, ◌≤◌, Bool, true, false, ◌&&◌, T, ◌==◌, refl}
-use Rattle.std.proofs.Common.{sym, ◌∙◌, ap, ap₂, subst, arith, eqb→eq}
+use Rattle.std.specs.Prelude.{◌≡◌, ℕ, zero, suc, ◌+◌, ◌-◌, ◌<◌, ◌≤◌, Bool, true, false, ◌&&◌, ◌==◌, refl}
+use Rattle.std.proofs.Common.{ap, ap₂, subst, arith, eqb→eq}
 use Rattle.std.proofs.Math.Decide.{dec_le}
 use Rattle.std.specs.Int.Count.{count_trailing_zeros, count_leading_zeros}
-use Rattle.laws.specs.Bools.{and_left, and_right, true_is, is_true}
+use Rattle.laws.specs.Bools.{and_left, and_right, true_is}
 use Rattle.laws.specs.Fit.{no_both}
 use Rattle.laws.specs.Ends.{Ends, none, ends, ends_of}
 use Rattle.stamp.specs.Digits.{digit_is, moved, row_ends}

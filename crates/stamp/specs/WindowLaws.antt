@@ -1,17 +1,15 @@
 -- Laws: sums over the pixels of a picture at which a test holds are those over the stamp, where all of them lie in its window.
-use Rattle.std.specs.Prelude.{◌≡◌, ℕ, zero, suc, ◌+◌, ◌-◌, ◌*◌, ◌/◌, ◌%◌, ◌^◌, ◌<◌, ◌≤◌, max, Bool, true, false, cond, ◌⊎◌, ◌==◌, ◌≢◌, nat_eq}
+use Rattle.std.specs.Prelude.{◌≡◌, ℕ, zero, suc, ◌+◌, ◌-◌, ◌*◌, ◌/◌, ◌%◌, ◌<◌, ◌≤◌, max, Bool, true, false, cond, ◌⊎◌, ◌==◌, ◌≢◌, nat_eq}
 use Rattle.std.proofs.Math.Path.{refl, sym, ap, ap₂}
 use Rattle.std.proofs.Common.{◌∙◌, inl, inr, ⊎_elim}
 use native.Mathlib.Omega.{arith}
-use Rattle.std.proofs.Math.Decide.{dec_le}
 use Rattle.laws.specs.Bools.{true_or_false}
-use Rattle.laws.specs.Fit.{no_both}
 use Rattle.laws.specs.Ends.{Ends, none, ends, ends_of, bit}
 use Rattle.laws.specs.EndsLaws.{Ended, ended, ended_unique}
 use Rattle.laws.specs.RunPlaces.{ends_same}
 use Rattle.laws.specs.PixelSums.{add_span, span_sum, point_row, point_sum}
 use Rattle.laws.specs.RowFold.{rows_from}
-use Rattle.laws.specs.RowFoldLaws.{rows_none, rows_split, rows_still, rows-window, rows_same, point_rows, span_rows}
+use Rattle.laws.specs.RowFoldLaws.{rows_split, rows_still, rows-window, rows_same, point_rows, span_rows}
 use Rattle.stamp.specs.Stamp.{digits_from, stamp_of}
 use Rattle.stamp.specs.Digits.{InWindow, digit_is, moved, row_ends, digit_steps, row_steps}
 use Rattle.stamp.specs.DigitLaws.{steps_test, digit_is_lem, row_steps-test}
