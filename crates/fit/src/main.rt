@@ -1,6 +1,6 @@
 // The picture fitter: one hexadecimal frame a line in, one answer a line out.
 #![tactic(auto)]
 
-fn main() {
-    stream::run();
+fn main(rt: HostRuntime) {
+    stream::run(&rt);
 }

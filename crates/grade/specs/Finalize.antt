@@ -57,6 +57,11 @@ after_at s a ch =
     error_after (channel s.s_t2 ch) (channel s.s_tc ch) (channel s.s_c2 ch) (channel s.s_t ch) (channel s.s_c ch)
     a (rest a) (colour_at s a ch) (count_of s)
 
+-- the sums of target and canvas, channel by channel
+pub record Summed (s : ShapeSums) (t0 t1 t2 c0 c1 c2 : Float) : Type 0 where
+  pub target : (t0 ≡ channel s.s_t 0) × (t1 ≡ channel s.s_t 1) × (t2 ≡ channel s.s_t 2)
+  pub canvas : (c0 ≡ channel s.s_c 0) × (c1 ≡ channel s.s_c 1) × (c2 ≡ channel s.s_c 2)
+
 -- the change before narrowing: after minus before
 unfoldable pub wide_change : ShapeSums → Float → Float
 wide_change s a = over_channels (after_at s a) ⊖ over_channels (before_at s)

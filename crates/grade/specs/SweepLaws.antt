@@ -165,6 +165,10 @@ module _ (s : ShapeSums) (levels : List Float) (n : ℕ) where
   swept_none nowhere b e = refl
   swept_none (at i) b e = absurd (omega (arith, b.below, e))
 
-  pub swept-some : (f : Found) (best : ℕ) (r : Score) → best ≡ number_of n f → (best ≡ n → ⊥) → r ≡ finalized s (level levels best) → r ≡ swept_at s levels f
-  swept-some nowhere best r e h g = absurd (h e)
-  swept-some (at i) best r e h g = g ∙ ap (λ (k : ℕ). finalized s (level levels k)) e
+  pub swept_by : (f : Found) (best : ℕ) (r : Score) → best ≡ number_of n f → (best ≡ n → ⊥) → r ≡ finalized s (level levels best) → r ≡ swept_at s levels f
+  swept_by nowhere best r e h g = absurd (h e)
+  swept_by (at i) best r e h g = g ∙ ap (λ (k : ℕ). finalized s (level levels k)) e
+
+  pub swept-some : (f : Found) → (number_of n f ≡ n → ⊥) → swept_at s levels f ≡ finalized s (level levels (number_of n f))
+  swept-some nowhere h = absurd (h refl)
+  swept-some (at i) h = refl

@@ -2,9 +2,10 @@
 // says how many there are and how many of ours differ. A line that does not read as oracle/answers.rs writes it counts as a difference.
 #![tactic(auto)]
 
-use bytes::scan;
 use cover::{Counted, Ended, Kind};
-use libc::{STDIN_FILENO, STDOUT_FILENO};
+use std::io;
+use std::io::Read;
+use words::scan;
 
 #[derive(Clone, Copy)]
 struct Tally {
@@ -101,8 +102,8 @@ fn shape_agrees(name: &[u8], n: usize, given: &[u64; 12], wanted: &[u64; 4]) -> 
 
 // One line: a name, numbers, "=", answers.
 fn agrees(line: &[u8]) -> bool {
-    let name = scan::find(line, 0, line.len(), b' ');
-    let equals = scan::find(line, name, line.len(), b'=');
+    let name = scan::find(line, 0, b' ');
+    let equals = scan::find(line, name, b'=');
     if line.len() - equals < 2 {
         return false;
     }
@@ -121,8 +122,8 @@ fn agrees(line: &[u8]) -> bool {
 
 fn counted(t: Tally, same: bool) -> Tally {
     Tally {
-        cases: std::num::wrapping_add_u64(t.cases, 1),
-        differences: std::num::wrapping_add_u64(t.differences, if same { 0 } else { 1 }),
+        cases: t.cases.wrapping_add(1),
+        differences: t.differences.wrapping_add(if same { 0 } else { 1 }),
     }
 }
 
@@ -134,19 +135,16 @@ fn replay(text: &[u8]) -> Tally {
     };
     let mut a = 0;
     while a < text.len() {
-        let e = scan::find(text, a, text.len(), b'\n');
+        let e = scan::find(text, a, b'\n');
         t = counted(t, agrees(&text[a..e]));
         a = e + 1;
     }
     t
 }
 
-fn main() {
-    let mut text = [0u8; 524288];
-    let n = io::read_full(STDIN_FILENO, &mut text);
-    let t = replay(&text[..n]);
-    io::print_decimal(STDOUT_FILENO, t.cases);
-    io::write_all(STDOUT_FILENO, b" cases, ");
-    io::print_decimal(STDOUT_FILENO, t.differences);
-    io::write_all(STDOUT_FILENO, b" differences\n");
+fn main(rt: HostRuntime) -> io::Result<()> {
+    let mut text = Vec::new(rt.alloc());
+    rt.stdin().read_to_end(&mut text)?;
+    let t = replay(&text);
+    println!(rt; "{} cases, {} differences", t.cases, t.differences)
 }

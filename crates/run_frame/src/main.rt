@@ -3,8 +3,8 @@
 
 use cover::Kind;
 use frame::{Answer, Frame, Read, Values};
-use libc::STDIN_FILENO;
 use lines::{Digits, Line};
+use std::io;
 
 #[derive(Clone, Copy)]
 struct State {
@@ -12,262 +12,267 @@ struct State {
     end: bool,
 }
 
-fn number(n: i32) {
-    show::text(b" ");
-    show::signed32(n);
+fn number(rt: &impl Print, n: i32) -> io::Result<()> {
+    show::text(rt, " ")?;
+    show::signed32(rt, n)
 }
 
-fn corner(x: i32, y: i32) {
-    number(x);
-    number(y);
+fn corner(rt: &impl Print, x: i32, y: i32) -> io::Result<()> {
+    number(rt, x)?;
+    number(rt, y)
 }
 
-fn kind(k: Kind) {
+fn kind(rt: &impl Print, k: Kind) -> io::Result<()> {
     match k {
         Kind::Circle(cx, cy, r) => {
-            show::text(b" circle");
-            corner(cx, cy);
-            number(r);
+            show::text(rt, " circle")?;
+            corner(rt, cx, cy)?;
+            number(rt, r)
         }
         Kind::Triangle(x0, y0, x1, y1, x2, y2) => {
-            show::text(b" triangle");
-            corner(x0, y0);
-            corner(x1, y1);
-            corner(x2, y2);
+            show::text(rt, " triangle")?;
+            corner(rt, x0, y0)?;
+            corner(rt, x1, y1)?;
+            corner(rt, x2, y2)
         }
         Kind::Quad(x0, y0, x1, y1, x2, y2, x3, y3) => {
-            show::text(b" quad");
-            corner(x0, y0);
-            corner(x1, y1);
-            corner(x2, y2);
-            corner(x3, y3);
+            show::text(rt, " quad")?;
+            corner(rt, x0, y0)?;
+            corner(rt, x1, y1)?;
+            corner(rt, x2, y2)?;
+            corner(rt, x3, y3)
         }
     }
 }
 
-fn shape(name: &[u8], k: Kind, opacity: u32) {
-    show::text(name);
-    kind(k);
-    show::text(b" opacity ");
-    show::hex(opacity as u64, 8);
-    show::text(b"\n");
+fn shape(rt: &impl Print, name: &str, k: Kind, opacity: u32) -> io::Result<()> {
+    show::text(rt, name)?;
+    kind(rt, k)?;
+    show::text(rt, " opacity ")?;
+    show::hex(rt, opacity as u64, 8)?;
+    show::text(rt, "\n")
 }
 
-fn byte(b: u8) {
-    show::text(b" ");
-    show::unsigned(b as u64);
+fn byte(rt: &impl Print, b: u8) -> io::Result<()> {
+    show::text(rt, " ")?;
+    show::unsigned(rt, b as u64)
 }
 
-fn refused(no: u8) {
-    show::text(b"refused");
-    byte(no);
+fn refused(rt: &impl Print, no: u8) -> io::Result<()> {
+    show::text(rt, "refused")?;
+    byte(rt, no)
 }
 
-fn refused_line(no: u8) {
-    refused(no);
-    show::text(b"\n");
+fn refused_line(rt: &impl Print, no: u8) -> io::Result<()> {
+    refused(rt, no)?;
+    show::text(rt, "\n")
 }
 
-fn new(w: u8, h: u8, r: u8, g: u8, b: u8) {
-    show::text(b"new");
-    byte(w);
-    byte(h);
-    byte(r);
-    byte(g);
-    byte(b);
-    show::text(b"\n");
+fn new(rt: &impl Print, w: u8, h: u8, r: u8, g: u8, b: u8) -> io::Result<()> {
+    show::text(rt, "new")?;
+    byte(rt, w)?;
+    byte(rt, h)?;
+    byte(rt, r)?;
+    byte(rt, g)?;
+    byte(rt, b)?;
+    show::text(rt, "\n")
 }
 
-fn row_heading(y: u8, n: usize) {
-    show::text(b"row");
-    byte(y);
-    show::text(b" of ");
-    show::unsigned(n as u64);
+fn row_heading(rt: &impl Print, y: u8, n: usize) -> io::Result<()> {
+    show::text(rt, "row")?;
+    byte(rt, y)?;
+    show::text(rt, " of ")?;
+    show::unsigned(rt, n as u64)
 }
 
-fn line_of(bytes: &[u8]) {
+fn line_of(rt: &impl Print, bytes: &[u8]) -> io::Result<()> {
     let mut out = [0u8; 100];
     let k = lines::write_line(bytes, &mut out);
     if k <= out.len() {
-        show::text(&out[0..k]);
+        rt.write_all(&out[0..k])?;
     }
+    Ok(())
 }
 
 // A row's pixels are written back as digits.
-fn row_pixels(f: Frame, bytes: [u8; 50]) {
+fn row_pixels(rt: &impl Print, f: Frame, bytes: [u8; 50]) -> io::Result<()> {
     let Frame::Row(y, n) = f else {
-        return;
+        return Ok(());
     };
-    show::text(b": ");
+    show::text(rt, ": ")?;
     if n <= 48 {
         let e = n + 2;
-        line_of(&bytes[2..e]);
+        line_of(rt, &bytes[2..e])?;
     }
+    Ok(())
 }
 
 // Whether the bytes behind a refusal, and after a frame, are zeros is not shown by the kinds of frame alone.
-fn first_and_last(bytes: [u8; 50]) {
-    show::text(b"  bytes");
-    byte(bytes[0]);
-    byte(bytes[1]);
-    byte(bytes[49]);
-    show::text(b"\n");
+fn first_and_last(rt: &impl Print, bytes: [u8; 50]) -> io::Result<()> {
+    show::text(rt, "  bytes")?;
+    byte(rt, bytes[0])?;
+    byte(rt, bytes[1])?;
+    byte(rt, bytes[49])?;
+    show::text(rt, "\n")
 }
 
 // A row without its pixels, whose line goes on.
-fn what(f: Frame) {
+fn what(rt: &impl Print, f: Frame) -> io::Result<()> {
     match f {
-        Frame::New(w, h, r, g, b) => new(w, h, r, g, b),
-        Frame::Row(y, n) => row_heading(y, n),
-        Frame::Score(k, opacity) => shape(b"score", k, opacity),
-        Frame::Paint(k, opacity) => shape(b"paint", k, opacity),
-        Frame::Bad(no) => refused_line(no),
+        Frame::New(w, h, r, g, b) => new(rt, w, h, r, g, b),
+        Frame::Row(y, n) => row_heading(rt, y, n),
+        Frame::Score(k, opacity) => shape(rt, "score", k, opacity),
+        Frame::Paint(k, opacity) => shape(rt, "paint", k, opacity),
+        Frame::Bad(no) => refused_line(rt, no),
     }
 }
 
-fn read(r: Read) {
+fn read(rt: &impl Print, r: Read) -> io::Result<()> {
     let f = r.frame;
     let bytes = r.bytes;
-    what(f);
-    row_pixels(f, bytes);
-    first_and_last(bytes);
+    what(rt, f)?;
+    row_pixels(rt, f, bytes)?;
+    first_and_last(rt, bytes)
 }
 
-fn step(line: Line, b: u8, text: &mut [u8]) -> Line {
+fn step(rt: &impl Print, line: Line, b: u8, text: &mut [u8]) -> io::Result<Line> {
     let next = lines::feed(line, b, text);
     if next.ended {
-        read(frame::read_line(next, text));
+        read(rt, frame::read_line(next, text))?;
     }
-    next
+    Ok(next)
 }
 
-fn steps(line: Line, came: &[u8], text: &mut [u8]) -> Line {
+fn steps(rt: &impl Print, line: Line, came: &[u8], text: &mut [u8]) -> io::Result<Line> {
     let mut s = line;
-    let mut i = 0;
-    while i < came.len() {
-        s = step(s, came[i], &mut *text);
-        i += 1;
+    for b in came {
+        s = step(rt, s, *b, text)?;
     }
-    s
+    Ok(s)
 }
 
-fn finish(line: Line, text: &[u8]) {
+fn finish(rt: &impl Print, line: Line, text: &[u8]) -> io::Result<()> {
     if lines::last(line) {
-        read(frame::read_line(line, text));
+        read(rt, frame::read_line(line, text))?;
     }
+    Ok(())
 }
 
-// One read of standard input.
-fn some(s: State, text: &mut [u8]) -> State {
-    let mut buf = io::buffer();
+// One read of an input.
+fn some(
+    input: &mut impl io::Read,
+    rt: &impl Print,
+    s: State,
+    text: &mut [u8],
+) -> io::Result<State> {
+    let mut buf = [0u8; 4096];
     let line = s.line;
-    let got = libc::read(STDIN_FILENO, &mut buf);
-    if got <= 0 {
-        return State { line, end: true };
+    let n = input.read(&mut buf)?;
+    if n == 0 {
+        return Ok(State { line, end: true });
     }
-    let n = io::count(got, &buf);
-    State {
-        line: steps(line, &buf[..n], text),
-        end: false,
-    }
+    let line = steps(rt, line, &buf[..n], text)?;
+    Ok(State { line, end: false })
 }
 
-fn standard_input() {
+fn standard_input(rt: &(impl Input + Print)) -> io::Result<()> {
     let mut text = [0u8; 100];
     let mut s = State {
         line: lines::start(),
         end: false,
     };
-    let mut turns = u64::MAX;
-    while turns > 0 && !s.end {
-        s = some(s, &mut text);
-        turns -= 1;
+    let mut input = rt.reader();
+    for _ in 0..u64::MAX {
+        if s.end {
+            break;
+        }
+        s = some(&mut input, rt, s, &mut text)?;
     }
-    let line = s.line;
-    finish(line, &text);
+    finish(rt, s.line, &text)
 }
 
 // An input of its own.
-fn run(input: &[u8]) {
-    show::text(b"--\n");
+fn run(rt: &impl Print, input: &[u8]) -> io::Result<()> {
+    show::text(rt, "--\n")?;
     let mut text = [0u8; 100];
-    let line = steps(lines::start(), input, &mut text);
-    finish(line, &text);
+    let line = steps(rt, lines::start(), input, &mut text)?;
+    finish(rt, line, &text)
 }
 
 // Bytes without a line.
-fn bare(bytes: &[u8]) {
+fn bare(rt: &impl Print, bytes: &[u8]) -> io::Result<()> {
     let f = frame::decode(bytes);
-    what(f);
+    what(rt, f)?;
     let Frame::Row(y, n) = f else {
-        return;
+        return Ok(());
     };
-    show::text(b"\n");
+    show::text(rt, "\n")
 }
 
-fn bares() {
-    bare(b"");
-    bare(b"\x01");
-    bare(b"\x02");
-    bare(b"\x02\x10");
-    bare(&[2u8; 49]);
-    bare(&[2u8; 50]);
-    bare(&[2u8; 51]);
-    bare(&[2u8; 60]);
+fn bares(rt: &impl Print) -> io::Result<()> {
+    bare(rt, b"")?;
+    bare(rt, b"\x01")?;
+    bare(rt, b"\x02")?;
+    bare(rt, b"\x02\x10")?;
+    bare(rt, &[2u8; 49])?;
+    bare(rt, &[2u8; 50])?;
+    bare(rt, &[2u8; 51])?;
+    bare(rt, &[2u8; 60])
 }
 
-fn four(a: u8, b: u8, c: u8, d: u8) {
-    byte(a);
-    byte(b);
-    byte(c);
-    byte(d);
-    show::text(b"\n");
+fn four(rt: &impl Print, a: u8, b: u8, c: u8, d: u8) -> io::Result<()> {
+    byte(rt, a)?;
+    byte(rt, b)?;
+    byte(rt, c)?;
+    byte(rt, d)?;
+    show::text(rt, "\n")
 }
 
 // Digits without a frame, into a buffer of four bytes.
-fn spelled(line: &[u8]) {
+fn spelled(rt: &impl Print, line: &[u8]) -> io::Result<()> {
     let mut out = [42u8; 4];
     let d = lines::decode_hex(line, &mut out);
     match d {
-        Digits::Bytes(n) => show::unsigned(n as u64),
-        Digits::Bad(no) => refused(no),
+        Digits::Bytes(n) => show::unsigned(rt, n as u64)?,
+        Digits::Bad(no) => refused(rt, no)?,
     }
-    four(out[0], out[1], out[2], out[3]);
+    four(rt, out[0], out[1], out[2], out[3])
 }
 
-fn spellings() {
-    spelled(b"");
-    spelled(b"0");
-    spelled(b"0a");
-    spelled(b"0A1b");
-    spelled(b"fFfE0100");
-    spelled(b"fFfE010");
-    spelled(b"fFfE01002a");
-    spelled(b"0102030g");
-    spelled(b"g1020304");
+fn spellings(rt: &impl Print) -> io::Result<()> {
+    spelled(rt, b"")?;
+    spelled(rt, b"0")?;
+    spelled(rt, b"0a")?;
+    spelled(rt, b"0A1b")?;
+    spelled(rt, b"fFfE0100")?;
+    spelled(rt, b"fFfE010")?;
+    spelled(rt, b"fFfE01002a")?;
+    spelled(rt, b"0102030g")?;
+    spelled(rt, b"g1020304")
 }
 
 // What `write_answer` writes, and what it leaves after it.
-fn answer(a: Answer) {
+fn answer(rt: &impl Print, a: Answer) -> io::Result<()> {
     let mut out = [42u8; 100];
     let n = frame::write_answer(a, &mut out);
-    show::unsigned(n as u64);
-    show::text(b" ");
+    show::unsigned(rt, n as u64)?;
+    show::text(rt, " ")?;
     if n < 100 {
-        show::text(&out[0..n]);
-        byte(out[n]);
-        show::text(b"\n");
+        rt.write_all(&out[0..n])?;
+        byte(rt, out[n])?;
+        show::text(rt, "\n")?;
     }
+    Ok(())
 }
 
 // A buffer that has room for five characters.
-fn small(a: Answer) {
+fn small(rt: &impl Print, a: Answer) -> io::Result<()> {
     let mut out = [42u8; 5];
     let n = frame::write_answer(a, &mut out);
-    show::unsigned(n as u64);
-    show::text(b" ");
-    show::text(&out);
-    show::text(b"\n");
+    show::unsigned(rt, n as u64)?;
+    show::text(rt, " ")?;
+    rt.write_all(&out)?;
+    show::text(rt, "\n")
 }
 
 fn values(count: u32, change: u32, colour: u32) -> Values {
@@ -280,29 +285,35 @@ fn values(count: u32, change: u32, colour: u32) -> Values {
     }
 }
 
-fn answers() {
-    answer(Answer::Made);
-    answer(Answer::Set);
-    answer(Answer::Scored(values(1, 0xc0100000, 0x3f800000)));
-    answer(Answer::Painted(values(256, 0x01020304, 0), 0x3fe8000000000000));
-    answer(Answer::Painted(values(0xfffffffe, 0x0a0b0c0d, 0x10), 0xfedcba9876543210));
-    answer(Answer::Refused(8));
-    answer(Answer::Refused(255));
-    small(Answer::Made);
-    small(Answer::Refused(1));
-    small(Answer::Scored(values(0, 0, 0)));
+fn answers(rt: &impl Print) -> io::Result<()> {
+    answer(rt, Answer::Made)?;
+    answer(rt, Answer::Set)?;
+    answer(rt, Answer::Scored(values(1, 0xc0100000, 0x3f800000)))?;
+    answer(
+        rt,
+        Answer::Painted(values(256, 0x01020304, 0), 0x3fe8000000000000),
+    )?;
+    answer(
+        rt,
+        Answer::Painted(values(0xfffffffe, 0x0a0b0c0d, 0x10), 0xfedcba9876543210),
+    )?;
+    answer(rt, Answer::Refused(8))?;
+    answer(rt, Answer::Refused(255))?;
+    small(rt, Answer::Made)?;
+    small(rt, Answer::Refused(1))?;
+    small(rt, Answer::Scored(values(0, 0, 0)))
 }
 
-fn main() {
-    standard_input();
-    run(b"");
-    run(b"\n");
-    run(b"\n\n");
-    run(b"010203040506");
-    run(b"010203040506\n");
-    run(b"\n010203040506");
-    run(b"0");
-    bares();
-    spellings();
-    answers();
+fn main(rt: HostRuntime) -> io::Result<()> {
+    standard_input(&rt)?;
+    run(&rt, b"")?;
+    run(&rt, b"\n")?;
+    run(&rt, b"\n\n")?;
+    run(&rt, b"010203040506")?;
+    run(&rt, b"010203040506\n")?;
+    run(&rt, b"\n010203040506")?;
+    run(&rt, b"0")?;
+    bares(&rt)?;
+    spellings(&rt)?;
+    answers(&rt)
 }

@@ -1,42 +1,42 @@
 // What is written of an answer.
 use grade::{Score, Scored};
 use score::Collected;
+use std::io;
 
-pub(crate) fn refused(no: u8) {
-    show::text(b"refused ");
-    show::unsigned(no as u64);
+pub(crate) fn refused(rt: &impl Print, no: u8) -> io::Result<()> {
+    show::text(rt, "refused ")?;
+    show::unsigned(rt, no as u64)
 }
 
-fn colour(red: f32, green: f32, blue: f32) {
-    figures::number(red);
-    figures::number(green);
-    figures::number(blue);
+fn colour(rt: &impl Print, red: f32, green: f32, blue: f32) -> io::Result<()> {
+    figures::number(rt, red)?;
+    figures::number(rt, green)?;
+    figures::number(rt, blue)
 }
 
-fn scored(r: Score) {
-    show::hex(float::bits32(r.opacity) as u64, 8);
-    show::text(b" ");
-    show::unsigned(r.count as u64);
-    figures::number(r.change);
-    colour(r.red, r.green, r.blue);
+fn scored(rt: &impl Print, r: Score) -> io::Result<()> {
+    show::hex(rt, float::bits32(r.opacity) as u64, 8)?;
+    show::text(rt, " ")?;
+    show::unsigned(rt, r.count as u64)?;
+    figures::number(rt, r.change)?;
+    colour(rt, r.red, r.green, r.blue)
 }
 
-pub(crate) fn answer(s: Scored) {
+pub(crate) fn answer(rt: &impl Print, s: Scored) -> io::Result<()> {
     match s {
-        Scored::Done(r) => scored(r),
-        Scored::Refused(no) => refused(no),
+        Scored::Done(r) => scored(rt, r)?,
+        Scored::Refused(no) => refused(rt, no)?,
     }
-    show::text(b"\n");
+    show::text(rt, "\n")
 }
 
-pub(crate) fn sums_answer(c: Collected) {
+pub(crate) fn sums_answer(rt: &impl Print, c: Collected) -> io::Result<()> {
     if c.refused != 0 {
-        refused(c.refused);
-        show::text(b"\n");
-        return;
+        refused(rt, c.refused)?;
+        return show::text(rt, "\n");
     }
     let s = c.sums;
-    show::unsigned(s.count as u64);
-    show::text(b"\n");
-    figures::series(s);
+    show::unsigned(rt, s.count as u64)?;
+    show::text(rt, "\n")?;
+    figures::series(rt, s)
 }

@@ -2,6 +2,7 @@
 use crate::answers::{answer, sums_answer};
 use cover::Kind;
 use score::Request;
+use std::io;
 
 #[derive(Clone, Copy)]
 pub(crate) enum Call {
@@ -9,16 +10,28 @@ pub(crate) enum Call {
     Sums,
 }
 
-fn by_spans(kind: Kind, call: Call, levels: &[f32], w: usize, h: usize, places: &[f64]) {
+fn by_spans(
+    rt: &impl Print,
+    kind: Kind,
+    call: Call,
+    levels: &[f32],
+    w: usize,
+    h: usize,
+    places: &[f64],
+) -> io::Result<()> {
     match call {
         Call::Score(request) => {
-            answer(score::calls::span_score(kind, request, levels, w, h, places))
+            answer(
+                rt,
+                score::calls::span_score(kind, request, levels, w, h, places),
+            )
         }
-        Call::Sums => sums_answer(score::calls::collect_span_sums(kind, w, h, places)),
+        Call::Sums => sums_answer(rt, score::calls::collect_span_sums(kind, w, h, places)),
     }
 }
 
 fn circle_by_points(
+    rt: &impl Print,
     cx: i32,
     cy: i32,
     r: i32,
@@ -28,18 +41,21 @@ fn circle_by_points(
     h: usize,
     target: &[f32],
     canvas: &[f32],
-) {
+) -> io::Result<()> {
     match call {
-        Call::Score(request) => answer(score::calls::circle_point_score(
-            cx, cy, r, request, levels, w, h, target, canvas,
-        )),
-        Call::Sums => sums_answer(score::calls::collect_circle_sums(
-            cx, cy, r, w, h, target, canvas,
-        )),
+        Call::Score(request) => answer(
+            rt,
+            score::calls::circle_point_score(cx, cy, r, request, levels, w, h, target, canvas),
+        ),
+        Call::Sums => sums_answer(
+            rt,
+            score::calls::collect_circle_sums(cx, cy, r, w, h, target, canvas),
+        ),
     }
 }
 
 fn triangle_by_points(
+    rt: &impl Print,
     x0: i32,
     y0: i32,
     x1: i32,
@@ -52,19 +68,24 @@ fn triangle_by_points(
     h: usize,
     target: &[f32],
     canvas: &[f32],
-) {
+) -> io::Result<()> {
     match call {
-        Call::Score(request) => answer(score::calls::triangle_point_score(
-            x0, y0, x1, y1, x2, y2, request, levels, w, h, target, canvas,
-        )),
-        Call::Sums => sums_answer(score::calls::collect_triangle_sums(
-            x0, y0, x1, y1, x2, y2, w, h, target, canvas,
-        )),
+        Call::Score(request) => answer(
+            rt,
+            score::calls::triangle_point_score(
+                x0, y0, x1, y1, x2, y2, request, levels, w, h, target, canvas,
+            ),
+        ),
+        Call::Sums => sums_answer(
+            rt,
+            score::calls::collect_triangle_sums(x0, y0, x1, y1, x2, y2, w, h, target, canvas),
+        ),
     }
 }
 
 // The point engine has no quads.
 fn by_points(
+    rt: &impl Print,
     kind: Kind,
     call: Call,
     levels: &[f32],
@@ -72,19 +93,21 @@ fn by_points(
     h: usize,
     target: &[f32],
     canvas: &[f32],
-) -> bool {
+) -> io::Result<bool> {
     match kind {
         Kind::Circle(cx, cy, r) => {
-            circle_by_points(cx, cy, r, call, levels, w, h, target, canvas)
+            circle_by_points(rt, cx, cy, r, call, levels, w, h, target, canvas)?;
         }
         Kind::Triangle(x0, y0, x1, y1, x2, y2) => {
-            triangle_by_points(x0, y0, x1, y1, x2, y2, call, levels, w, h, target, canvas)
+            triangle_by_points(
+                rt, x0, y0, x1, y1, x2, y2, call, levels, w, h, target, canvas,
+            )?;
         }
         Kind::Quad(x0, y0, x1, y1, x2, y2, x3, y3) => {
-            return false;
+            return Ok(false);
         }
     }
-    true
+    Ok(true)
 }
 
 fn fill(xs: &mut [f32], first: f32) {
@@ -104,6 +127,7 @@ fn build(target: &[f32; 110], canvas: &[f32; 110], places: &mut [f64]) {
 }
 
 fn on_table(
+    rt: &impl Print,
     kind: Kind,
     call: Call,
     levels: &[f32],
@@ -112,17 +136,18 @@ fn on_table(
     numbers: usize,
     target: &[f32; 110],
     canvas: &[f32; 110],
-) -> bool {
+) -> io::Result<bool> {
     if 620 < numbers {
-        return false;
+        return Ok(false);
     }
     let mut places = [0.0; 620];
     build(target, canvas, &mut places);
-    by_spans(kind, call, levels, w, h, &places[0..numbers]);
-    true
+    by_spans(rt, kind, call, levels, w, h, &places[0..numbers])?;
+    Ok(true)
 }
 
 fn on_pictures(
+    rt: &impl Print,
     kind: Kind,
     call: Call,
     levels: &[f32],
@@ -132,14 +157,15 @@ fn on_pictures(
     others: usize,
     target: &[f32],
     canvas: &[f32],
-) -> bool {
+) -> io::Result<bool> {
     if target.len() < numbers {
-        return false;
+        return Ok(false);
     }
     if canvas.len() < others {
-        return false;
+        return Ok(false);
     }
     by_points(
+        rt,
         kind,
         call,
         levels,
@@ -152,6 +178,7 @@ fn on_pictures(
 
 // On a target, a canvas and their table, with so many numbers lent.
 pub(crate) fn called(
+    rt: &impl Print,
     spans: bool,
     kind: Kind,
     call: Call,
@@ -160,13 +187,15 @@ pub(crate) fn called(
     h: usize,
     numbers: usize,
     others: usize,
-) -> bool {
+) -> io::Result<bool> {
     let mut target = [0.0f32; 110];
     let mut canvas = [0.0f32; 110];
     fill(&mut target, 0.3);
     fill(&mut canvas, 0.6);
     if spans {
-        return on_table(kind, call, levels, w, h, numbers, &target, &canvas);
+        return on_table(rt, kind, call, levels, w, h, numbers, &target, &canvas);
     }
-    on_pictures(kind, call, levels, w, h, numbers, others, &target, &canvas)
+    on_pictures(
+        rt, kind, call, levels, w, h, numbers, others, &target, &canvas,
+    )
 }

@@ -15,14 +15,15 @@ mod answers;
 mod calls;
 mod shapes;
 
-use answers::{answer, refused};
-use bytes::scan;
+use answers::answer;
 use calls::{Call, called};
 use cover::Kind;
-use libc::STDIN_FILENO;
 use score::Request;
 use shapes::{Asked, bits32, float32, shape};
+use std::io;
+use std::io::Read;
 use sums::ShapeSums;
+use words::scan;
 
 // 64 levels of 6 bits, six more numbers, and one of them another.
 fn fill_levels(levels: &mut [f32], at: u64, bad: u64) {
@@ -36,8 +37,16 @@ fn fill_levels(levels: &mut [f32], at: u64, bad: u64) {
 }
 
 // W, H, NUMBERS, OTHERS behind four others.
-fn with_levels(spans: bool, kind: Kind, request: Request, levels: &[f32], p: &[u64; 11]) -> bool {
+fn with_levels(
+    rt: &impl Print,
+    spans: bool,
+    kind: Kind,
+    request: Request,
+    levels: &[f32],
+    p: &[u64; 11],
+) -> io::Result<bool> {
     called(
+        rt,
         spans,
         kind,
         Call::Score(request),
@@ -50,20 +59,27 @@ fn with_levels(spans: bool, kind: Kind, request: Request, levels: &[f32], p: &[u
 }
 
 // OPACITY or COUNT, LENT, AT, BAD, W, H, NUMBERS, OTHERS.
-fn score_line(spans: bool, kind: Kind, request: Request, p: &[u64; 11]) -> bool {
+fn score_line(
+    rt: &impl Print,
+    spans: bool,
+    kind: Kind,
+    request: Request,
+    p: &[u64; 11],
+) -> io::Result<bool> {
     let mut levels = [0.5f32; 70];
     fill_levels(&mut levels, p[2], p[3]);
     let lent = p[1] as usize;
     if 70 < lent {
-        return false;
+        return Ok(false);
     }
-    with_levels(spans, kind, request, &levels[0..lent], p)
+    with_levels(rt, spans, kind, request, &levels[0..lent], p)
 }
 
 // W, H, NUMBERS, OTHERS.
-fn sums_line(spans: bool, kind: Kind, p: &[u64; 11]) -> bool {
+fn sums_line(rt: &impl Print, spans: bool, kind: Kind, p: &[u64; 11]) -> io::Result<bool> {
     let levels = [0.0f32; 1];
     called(
+        rt,
         spans,
         kind,
         Call::Sums,
@@ -75,44 +91,50 @@ fn sums_line(spans: bool, kind: Kind, p: &[u64; 11]) -> bool {
     )
 }
 
-fn sums_called(name: &[u8], p: &[u64; 11], kind: Kind) -> bool {
+fn sums_called(rt: &impl Print, name: &[u8], p: &[u64; 11], kind: Kind) -> io::Result<bool> {
     if check::same(name, b"spans-sums") {
-        return sums_line(true, kind, p);
+        return sums_line(rt, true, kind, p);
     }
     if check::same(name, b"points-sums") {
-        return sums_line(false, kind, p);
+        return sums_line(rt, false, kind, p);
     }
-    false
+    Ok(false)
 }
 
-fn opacity_called(name: &[u8], p: &[u64; 11], kind: Kind) -> bool {
+fn opacity_called(rt: &impl Print, name: &[u8], p: &[u64; 11], kind: Kind) -> io::Result<bool> {
     if check::same(name, b"spans-opacity") {
-        return score_line(true, kind, Request::Opacity(float32(p[0])), p);
+        return score_line(rt, true, kind, Request::Opacity(float32(p[0])), p);
     }
     if check::same(name, b"points-opacity") {
-        return score_line(false, kind, Request::Opacity(float32(p[0])), p);
+        return score_line(rt, false, kind, Request::Opacity(float32(p[0])), p);
     }
-    false
+    Ok(false)
 }
 
-fn levels_called(name: &[u8], p: &[u64; 11], kind: Kind) -> bool {
+fn levels_called(rt: &impl Print, name: &[u8], p: &[u64; 11], kind: Kind) -> io::Result<bool> {
     if check::same(name, b"spans-levels") {
-        return score_line(true, kind, Request::Levels(p[0] as usize), p);
+        return score_line(rt, true, kind, Request::Levels(p[0] as usize), p);
     }
     if check::same(name, b"points-levels") {
-        return score_line(false, kind, Request::Levels(p[0] as usize), p);
+        return score_line(rt, false, kind, Request::Levels(p[0] as usize), p);
     }
-    false
+    Ok(false)
 }
 
-fn shape_line(name: &[u8], n: usize, p: &[u64; 11], kind: Kind) -> bool {
+fn shape_line(
+    rt: &impl Print,
+    name: &[u8],
+    n: usize,
+    p: &[u64; 11],
+    kind: Kind,
+) -> io::Result<bool> {
     if n == 4 {
-        return sums_called(name, p, kind);
+        return sums_called(rt, name, p, kind);
     }
     if n == 8 {
-        return opacity_called(name, p, kind) || levels_called(name, p, kind);
+        return Ok(opacity_called(rt, name, p, kind)? || levels_called(rt, name, p, kind)?);
     }
-    false
+    Ok(false)
 }
 
 // PIXELS, and sums that are the same in each channel.
@@ -133,88 +155,99 @@ fn sums_of(p: &[u64; 11]) -> ShapeSums {
 }
 
 // COUNT, LENT, AT, BAD, and the sums.
-fn sweep_line(p: &[u64; 11]) -> bool {
+fn sweep_line(rt: &impl Print, p: &[u64; 11]) -> io::Result<bool> {
     let mut levels = [0.5f32; 70];
     fill_levels(&mut levels, p[2], p[3]);
     let lent = p[1] as usize;
     if 70 < lent {
-        return false;
+        return Ok(false);
     }
-    answer(grade::sweeps::alpha_sweep(sums_of(p), &levels[0..lent], p[0] as usize));
-    true
+    answer(
+        rt,
+        grade::sweeps::alpha_sweep(sums_of(p), &levels[0..lent], p[0] as usize),
+    )?;
+    Ok(true)
 }
 
-fn eight_across(levels: &[f32]) {
-    figures::numbers(levels, 8);
+fn eight_across(rt: &impl Print, levels: &[f32]) -> io::Result<()> {
+    figures::numbers(rt, levels, 8)?;
     if levels.len() % 8 != 0 {
-        show::text(b"\n");
+        show::text(rt, "\n")?;
     }
+    Ok(())
 }
 
-fn levels_on(bits: u32, levels: &mut [f32]) {
+fn levels_on(rt: &impl Print, bits: u32, levels: &mut [f32]) -> io::Result<()> {
     let no = grade::levels::alpha_levels(bits, levels);
-    show::unsigned(no as u64);
-    show::text(b"\n");
-    eight_across(levels);
+    show::unsigned(rt, no as u64)?;
+    show::text(rt, "\n")?;
+    eight_across(rt, levels)
 }
 
 // BITS, LENT.
-fn levels_line(p: &[u64; 11]) -> bool {
+fn levels_line(rt: &impl Print, p: &[u64; 11]) -> io::Result<bool> {
     let mut levels = [7.0f32; 70];
     let lent = p[1] as usize;
     if 70 < lent {
-        return false;
+        return Ok(false);
     }
-    levels_on(bits32(p[0]), &mut levels[0..lent]);
-    true
+    levels_on(rt, bits32(p[0]), &mut levels[0..lent])?;
+    Ok(true)
 }
 
 // ---- lines
 
 fn shape_behind_colon(text: &[u8]) -> Asked {
-    let colon = scan::find(text, 0, text.len(), b':');
+    let colon = scan::find(text, 0, b':');
     if text.len() - colon < 2 {
         return Asked::Nothing;
     }
     shape(&text[colon + 2..])
 }
 
-fn named_line(name: &[u8], rest: &[u8], n: usize, p: &[u64; 11]) -> bool {
+fn named_line(
+    rt: &impl Print,
+    name: &[u8],
+    rest: &[u8],
+    n: usize,
+    p: &[u64; 11],
+) -> io::Result<bool> {
     if n == 2 && check::same(name, b"levels") {
-        return levels_line(p);
+        return levels_line(rt, p);
     }
     if n == 10 && check::same(name, b"sweep") {
-        return sweep_line(p);
+        return sweep_line(rt, p);
     }
     let Asked::Shape(kind) = shape_behind_colon(rest) else {
-        return false;
+        return Ok(false);
     };
-    shape_line(name, n, p, kind)
+    shape_line(rt, name, n, p, kind)
 }
 
-fn one(line: &[u8]) -> bool {
-    let name = scan::find(line, 0, line.len(), b' ');
+fn one(rt: &impl Print, line: &[u8]) -> io::Result<bool> {
+    let name = scan::find(line, 0, b' ');
     if name == line.len() {
-        return false;
+        return Ok(false);
     }
     let mut p = [0u64; 11];
     let n = words::numbers(&line[name + 1..], &mut p);
-    named_line(&line[0..name], &line[name + 1..], n, &p)
+    named_line(rt, &line[0..name], &line[name + 1..], n, &p)
 }
 
-fn each(text: &[u8]) {
+fn each(rt: &impl Print, text: &[u8]) -> io::Result<()> {
     let mut a = 0;
     while a < text.len() {
-        let e = scan::find(text, a, text.len(), b'\n');
-        if !one(&text[a..e]) {
-            show::text(b"bad line\n");
+        let e = scan::find(text, a, b'\n');
+        if !one(rt, &text[a..e])? {
+            show::text(rt, "bad line\n")?;
         }
         a = e + 1;
     }
+    Ok(())
 }
 
-fn main() {
-    let mut text = [0u8; 65536];
-    let n = io::read_full(STDIN_FILENO, &mut text);
-    each(&text[..n]);
+fn main(rt: HostRuntime) -> io::Result<()> {
+    let mut text = Vec::new(rt.alloc());
+    rt.stdin().read_to_end(&mut text)?;
+    each(&rt, &text)
 }

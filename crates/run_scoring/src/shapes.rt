@@ -1,6 +1,6 @@
 // What a line says: numbers, and a shape's name and coordinates.
-use bytes::scan;
 use cover::Kind;
+use words::scan;
 
 #[derive(Clone, Copy)]
 pub(crate) enum Asked {
@@ -59,7 +59,7 @@ fn named_shape(name: &[u8], n: usize, p: &[u64; 9]) -> Asked {
 }
 
 pub(crate) fn shape(text: &[u8]) -> Asked {
-    let name = scan::find(text, 0, text.len(), b' ');
+    let name = scan::find(text, 0, b' ');
     if name == text.len() {
         return Asked::Nothing;
     }

@@ -7,8 +7,8 @@ ghost use Rattle.session.specs.Held.{Holds};
 
 use frame::Answer;
 use held::{Asked, State};
-use libc::{STDIN_FILENO, STDOUT_FILENO};
 use lines::{Line, MALFORMED};
+use std::io::Read;
 
 // The line as it comes in, the running state, and whether there is more to do.
 #[derive(Clone, Copy)]
@@ -26,17 +26,18 @@ struct Told {
 }
 
 // One line, by one write. False where the output is closed.
-fn print(a: Answer) -> bool {
+fn print(rt: &impl Print, a: Answer) -> bool {
     let mut out = [0u8; 64];
     let n = frame::write_answer(a, &mut out);
     if n <= out.len() {
-        return io::write_all(STDOUT_FILENO, &out[0..n]);
+        return rt.write_all(&out[0..n]).is_ok();
     }
     false
 }
 
 // A line is a request, which takes its step, or it is refused.
 fn answer(
+    rt: &impl Print,
     s: State,
     line: Line,
     text: &[u8],
@@ -51,18 +52,19 @@ fn answer(
     let frame = read.frame;
     let bytes = read.bytes;
     let Asked::Of(request) = held::ask(frame) else {
-        let open = print(Answer::Refused(MALFORMED));
+        let open = print(rt, Answer::Refused(MALFORMED));
         return Told { state: s, open };
     };
     let r = session::step(s, request, &bytes, target, canvas, table);
     let state = r.state;
     let given = r.answer;
-    let open = print(given);
+    let open = print(rt, given);
     Told { state, open }
 }
 
 // The next byte of the input.
 fn take(
+    rt: &impl Print,
     g: Going,
     b: u8,
     text: &mut [u8],
@@ -77,7 +79,7 @@ fn take(
     let before = g.line;
     let line = lines::feed(before, b, text);
     if line.ended {
-        let t = answer(s, line, text, target, canvas, table);
+        let t = answer(rt, s, line, text, target, canvas, table);
         let state = t.state;
         return Going {
             line,
@@ -94,6 +96,7 @@ fn take(
 
 // All bytes of one read.
 fn take_all(
+    rt: &impl Print,
     g: Going,
     came: &[u8],
     text: &mut [u8],
@@ -108,6 +111,7 @@ fn take_all(
     let mut i = 0;
     while i < came.len() && s.open {
         s = take(
+            rt,
             s,
             came[i],
             &mut *text,
@@ -121,14 +125,21 @@ fn take_all(
 }
 
 // The end of the input: a line without LF is answered too.
-fn finish(g: Going, text: &[u8], target: &mut [f32], canvas: &mut [f32], table: &mut [f64]) -> Going
+fn finish(
+    rt: &impl Print,
+    g: Going,
+    text: &[u8],
+    target: &mut [f32],
+    canvas: &mut [f32],
+    table: &mut [f64],
+) -> Going
     requires { Holds g.state target.old canvas.old table.old }
     ensures { Holds result.state target.new canvas.new table.new }
 {
     let s = g.state;
     let line = g.line;
     if lines::last(line) {
-        let t = answer(s, line, text, target, canvas, table);
+        let t = answer(rt, s, line, text, target, canvas, table);
         let state = t.state;
         return Going {
             line,
@@ -143,8 +154,10 @@ fn finish(g: Going, text: &[u8], target: &mut [f32], canvas: &mut [f32], table: 
     }
 }
 
-// One read of standard input. What fails to be read has ended.
+// One read of the input. What fails to be read has ended.
 fn some(
+    input: &mut impl Read,
+    rt: &impl Print,
     g: Going,
     text: &mut [u8],
     target: &mut [f32],
@@ -154,17 +167,16 @@ fn some(
     requires { Holds g.state target.old canvas.old table.old }
     ensures { Holds result.state target.new canvas.new table.new }
 {
-    let mut buf = io::buffer();
-    let got = libc::read(STDIN_FILENO, &mut buf);
-    if got <= 0 {
-        return finish(g, text, target, canvas, table);
+    let mut buf = [0u8; 4096];
+    let n = input.read(&mut buf).unwrap_or(0);
+    if n == 0 {
+        return finish(rt, g, text, target, canvas, table);
     }
-    let n = io::count(got, &buf);
-    take_all(g, &buf[..n], text, target, canvas, table)
+    take_all(rt, g, &buf[..n], text, target, canvas, table)
 }
 
 // Until the input ends or the output is closed.
-pub fn run() {
+pub fn run(rt: &(impl Input + Print)) {
     let mut text = [0u8; 100];
     let mut target = [0.0f32; 768];
     let mut canvas = [0.0f32; 768];
@@ -176,9 +188,19 @@ pub fn run() {
         state,
         open: true,
     };
-    let mut turns = u64::MAX;
-    while turns > 0 && g.open {
-        g = some(g, &mut text, &mut target, &mut canvas, &mut table);
-        turns -= 1;
+    let mut input = rt.reader();
+    for _ in 0..u64::MAX {
+        if !g.open {
+            break;
+        }
+        g = some(
+            &mut input,
+            rt,
+            g,
+            &mut text,
+            &mut target,
+            &mut canvas,
+            &mut table,
+        );
     }
 }

@@ -1,7 +1,7 @@
 -- Laws: what the loops over rows leave is the rule's table, number by number.
-use Rattle.std.specs.Prelude.{◌≡◌, Bool, not, ◌&&◌, ◌||◌, ◌⊎◌, List, [], ◌∷◌, ◌++◌, ℕ, zero, suc, ◌+◌, ◌-◌, ◌*◌, ◌≤◌, ◌<◌, leb, ltb, take, ℤ, pos, Float}
+use Rattle.std.specs.Prelude.{◌≡◌, Bool, ◌&&◌, ◌||◌, ◌⊎◌, List, ◌++◌, ℕ, zero, suc, ◌+◌, ◌-◌, ◌*◌, ◌≤◌, ◌<◌, leb, ltb, take, ℤ, pos, Float}
 use Rattle.std.proofs.Math.Path.{refl, sym, ap}
-use Rattle.std.proofs.Common.{◌∙◌, subst, inl, inr, ⊎_elim, add-zero, arith, get_or-take, get_or-append-add}
+use Rattle.std.proofs.Common.{◌∙◌, inl, inr, ⊎_elim, add-zero, arith, get_or-take, get_or-append-add}
 use Rattle.std.proofs.Math.Bool.{true, false, cond, and-false}
 use Rattle.std.proofs.Math.ListN.{length, get_or, get_or-append}
 use Rattle.std.proofs.Math.Seq.{length-take-le}
@@ -20,10 +20,10 @@ use Rattle.sums.specs.declared.ShapeSums.{ShapeSums}
 use Rattle.sums.specs.Sums.{channel, no_sums, pixel_sums, plus}
 use Rattle.rows.specs.Places.{pixel_at, sums_at, target_six, canvas_nine, place_at}
 use Rattle.rows.specs.PlaceLaws.{keeps_place, length-row}
-use Rattle.table.specs.Layout.{Series, of_target, of_canvas, lane, at, entry}
+use Rattle.table.specs.Layout.{Series, of_target, of_canvas, lane, entry}
 use Rattle.table.specs.Table.{f64_sums, picture, Table, redone, Updated}
 use Rattle.table.specs.Fills.{row_at}
-use Rattle.table.specs.LayoutLaws.{lane-le, at_row, entries_same}
+use Rattle.table.specs.LayoutLaws.{lane-le, at_row}
 
 -- ---- a place
 

@@ -1,12 +1,12 @@
 -- Laws: `at` is in range, one to one and onto: a table is known by its entries, and has one place for each.
 use Rattle.std.specs.Prelude.{◌≡◌, refl, List, ℕ, zero, suc, ◌+◌, ◌*◌, ◌/◌, ◌%◌, ◌≤◌, ◌<◌, length, get_or, Float}
 use Rattle.std.proofs.Math.Path.{sym, ap}
-use Rattle.std.proofs.Common.{◌∙◌, div-add-mod', mod-lt, div-lt_iff_lt-mul, ext_get_or}
+use Rattle.std.proofs.Common.{◌∙◌, div-add-mod', mod-lt, ext_get_or}
 use native.Mathlib.Omega.{arith}
 use Rattle.std.specs.Float.{nan}
 use Rattle.laws.specs.RowLaws.{row-le}
 use Rattle.laws.specs.Index.{index_div, index_mod, row_of}
-use Rattle.laws.specs.RowSums.{OfTarget, OfCanvas, target_values, target_squares, canvas_values, canvas_squares, products}
+use Rattle.laws.specs.RowSums.{target_values, target_squares, canvas_values, canvas_squares, products}
 use Rattle.table.specs.Layout.{Series, of_target, of_canvas, lane, at, entry}
 
 -- the series' number in a place, and back

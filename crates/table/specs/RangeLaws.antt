@@ -1,11 +1,10 @@
 -- Laws: the two ends of an update, worked out from any two i32, and the rows that they leave between them.
-use Rattle.std.specs.Prelude.{◌≡◌, refl, Bool, true, false, ◌||◌, ℕ, ◌+◌, ◌^◌, ◌≤◌, ◌<◌, T, leb, ltb, ℤ, pos, negsuc, nat_abs}
+use Rattle.std.specs.Prelude.{◌≡◌, refl, Bool, true, false, ◌||◌, ℕ, ◌+◌, ◌≤◌, ◌<◌, T, leb, ltb, ℤ, pos, negsuc, nat_abs}
 use Rattle.std.proofs.Common.{sym, ap, ◌∙◌, arith, Fits, SFits, lt-ltb, le-ltb, le-leb, leb-true, leb-false}
-use Rattle.std.specs.Int.Signed.{le_z, lt_z, non_neg, mag}
+use Rattle.std.specs.Int.Signed.{le_z, lt_z, non_neg}
 use Rattle.std.specs.Int.{w32, w64}
 use Rattle.std.proofs.lemmas.Bool.{lt-leb}
 use Rattle.laws.specs.Fit.{no_both}
-use Rattle.laws.specs.Bools.{same_test}
 
 -- a number that is not below 0, as a usize
 pub casts : (z : ℤ) → SFits w32 z → lt_z z (pos 0) ≡ false → T (non_neg z) × Fits w64 (nat_abs z)

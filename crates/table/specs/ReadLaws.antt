@@ -1,5 +1,5 @@
 -- Laws: what is read at a place's indexes are its entries; place x of row y of the table is the sums of the pixels before x.
-use Rattle.std.specs.Prelude.{◌≡◌, refl, List, [], ◌∷◌, ℕ, zero, suc, ◌+◌, ◌-◌, ◌*◌, ◌≤◌, ◌<◌, get_or, Float}
+use Rattle.std.specs.Prelude.{◌≡◌, refl, List, ℕ, zero, suc, ◌+◌, ◌-◌, ◌*◌, ◌≤◌, ◌<◌, get_or, Float}
 use Rattle.std.proofs.Common.{sym, ap, ◌∙◌, add-zero}
 use native.Mathlib.Omega.{arith}
 use Rattle.std.specs.Float.{nan}
@@ -14,7 +14,7 @@ use Rattle.rows.specs.Places.{pixel_at, sums_at}
 use Rattle.rows.specs.PlaceLaws.{sums-count}
 use Rattle.table.specs.Layout.{Series, of_target, of_canvas, lane, at, entry, place_of}
 use Rattle.table.specs.Table.{Table}
-use Rattle.table.specs.FillLaws.{field, sum_of, row_rule}
+use Rattle.table.specs.FillLaws.{field, row_rule}
 
 pub series-read : (w : ℕ) (table : List Float) (s : Series) (y x : ℕ)
     → three (get_or table ((y * (w + 1) + x) * 15 + lane s) nan) (get_or table ((y * (w + 1) + x) * 15 + lane s + 1) nan) (get_or table ((y * (w + 1) + x) * 15 + lane s + 2) nan)

@@ -1,8 +1,7 @@
 -- Laws: there is one table of a target and a canvas; an update leaves other rows as they were, and after a change of the canvas in its rows gives the table afresh.
-use Rattle.std.specs.Prelude.{◌≡◌, refl, Bool, true, false, cond, List, ℕ, ◌+◌, ◌*◌, ◌≤◌, ◌<◌, length, ℤ, Float}
+use Rattle.std.specs.Prelude.{◌≡◌, refl, false, cond, List, ℕ, ◌+◌, ◌*◌, ◌≤◌, ◌<◌, length, ℤ, Float}
 use Rattle.std.proofs.Common.{sym, ap, ◌∙◌}
 use Rattle.std.proofs.Math.Decide.{ℕ_discrete}
-use Rattle.laws.specs.RowSums.{OfTarget, OfCanvas}
 use Rattle.laws.specs.RowSumLaws.{redone-fresh, kept_target}
 use Rattle.sums.specs.declared.ShapeSums.{ShapeSums}
 use Rattle.table.specs.Layout.{Series, of_target, of_canvas, entry}

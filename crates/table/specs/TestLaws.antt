@@ -1,11 +1,10 @@
 -- Laws: the refusals as a chain of tests, and what the work may rest on once none is left.
-use Rattle.std.specs.Prelude.{◌≡◌, Bool, true, false, ◌||◌, ℕ, ◌+◌, ◌*◌, ◌≤◌, length, T, ℤ, Float}
+use Rattle.std.specs.Prelude.{◌≡◌, Bool, true, false, ◌||◌, ℕ, ◌+◌, ◌*◌, length, ℤ, Float}
 use Rattle.std.proofs.Math.Path.{refl, sym, ap}
 use Rattle.std.proofs.Common.{◌∙◌, arith}
 use Rattle.std.proofs.Math.Bool.{not, cond, or-true}
 use mathlib.Core.List.{List, [], ◌∷◌}
-use Rattle.laws.specs.Fit.{no_both}
-use Rattle.laws.specs.Bools.{or_left, or_right, true_is}
+use Rattle.laws.specs.Bools.{or_left, or_right}
 use Rattle.refusal.specs.Refusals.{lowest, size_if, length_if, pixel_if, bad_size}
 use Rattle.refusal.specs.RefusalLaws.{lowest-none, sized}
 use Rattle.refusal.specs.Lengths.{bad_picture, bad_table}

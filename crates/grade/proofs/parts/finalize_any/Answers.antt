@@ -4,7 +4,7 @@ use lib.Ieee.{Float}
 use Rattle.laws.specs.F64.{◌⊗◌}
 use Rattle.sums.specs.Sums.{channel}
 use Rattle.grade.specs.Finalize.{colour_of, colour_at}
-use Rattle.grade.specs.FinalizeLaws.{finalized_steps}
+use Rattle.grade.specs.FinalizeLaws.{counted_steps}
 use Rattle.grade.specs.PartLaws.{parted_colour}
 use Rattle.grade.proofs.parts.finalize_any.Goals as goal
 use Rattle.grade.proofs.parts.finalize_any.Goals.{After-colour-blue}
@@ -32,7 +32,7 @@ module _ (c : After-colour-blue) where
 pub returns : goal.returns
 returns c =
     let x = c.args in
-    finalized_steps x.s x.opacity x.a c.all_drawn-after.result x.before c.narrow.result x.count c.requires.opacity.0 _ _ _
+    counted_steps x.s x.opacity x.a c.all_drawn-after.result x.before c.narrow.result x.count c.requires.opacity.0 _ _ _
     c.requires.some (colours (goal.at.returns c).After-colour-blue) c.all_drawn-after.ensures c.requires.before c.narrow.ensures
 
 pub all_drawn-after-requires : goal.all_drawn-after-requires

@@ -1,4 +1,4 @@
-use Rattle.grade.specs.FinalizeLaws.{colour_held, finalized_steps}
+use Rattle.grade.specs.FinalizeLaws.{colour_held, counted_steps}
 use Rattle.grade.proofs.parts.plain_score.Goals as goal
 
 -- `grade::parts::plain_score` meets its contract: its steps are the law's.
@@ -7,7 +7,7 @@ pub returns : goal.returns
 returns c =
     let x = c.args in
     let p = c.requires in
-    finalized_steps x.s x.opacity x.a c.all_drawn-after.result x.before c.narrow.result x.count p.opacity.0 x.red x.green x.blue
+    counted_steps x.s x.opacity x.a c.all_drawn-after.result x.before c.narrow.result x.count p.opacity.0 x.red x.green x.blue
     p.some p.colours c.all_drawn-after.ensures p.before c.narrow.ensures
 
 pub float_to_float-result : goal.float_to_float-result

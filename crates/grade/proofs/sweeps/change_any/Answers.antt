@@ -1,5 +1,5 @@
 use mathlib.Core.Path.{◌≡◌, refl, sym, ◌∙◌, ap}
-use Rattle.grade.specs.FinalizeLaws.{finalized_steps, finalized-none}
+use Rattle.grade.specs.FinalizeLaws.{counted_steps, finalized-none}
 use Rattle.grade.specs.Finalize.{rest, no_score}
 use lib.Ieee.{of_bits}
 use Rattle.grade.specs.declared.Score.{Score}
@@ -34,5 +34,5 @@ all_after-after-requires c =
 pub returns : goal.returns
 returns c =
     ap (λ (r : Score). r.change)
-    (finalized_steps c.args.s c.args.opacity c.widen-a.result c.all_after-after.result c.args.before c.narrow.result c.args.s.count c.widen-a.ensures _ _ _ (refl, c.if-count-eq0.false)
+    (counted_steps c.args.s c.args.opacity c.widen-a.result c.all_after-after.result c.args.before c.narrow.result c.args.s.count c.widen-a.ensures _ _ _ (refl, c.if-count-eq0.false)
     (c.colour_at-red.ensures, c.colour_at-green.ensures, c.colour_at-blue.ensures) c.all_after-after.ensures c.requires c.narrow.ensures)

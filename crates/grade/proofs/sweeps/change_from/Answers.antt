@@ -10,7 +10,7 @@ use Rattle.float.specs.Narrowed.{narrowed}
 use Rattle.float.specs.MarksLaws.{addends}
 use Rattle.grade.specs.declared.Score.{Score}
 use Rattle.grade.specs.Finalize.{rest, no_score, count_of, wanted_at, colour_at}
-use Rattle.grade.specs.FinalizeLaws.{known_step, finalized_steps, finalized-none}
+use Rattle.grade.specs.FinalizeLaws.{known_step, counted_steps, finalized-none}
 use Rattle.grade.proofs.sweeps.change_from.Goals as goal
 use Rattle.grade.proofs.sweeps.change_from.Goals.{After-known_colour-then-sum-2, Then-sum}
 
@@ -54,7 +54,7 @@ all_wide-after-requires c = record { rest = c.rest_of-m.ensures ∙ ap rest (sym
 pub returns-then-sum : goal.returns-then-sum
 returns-then-sum c =
     ap (λ (r : Score). r.change)
-    (finalized_steps c.args.s c.args.opacity c.widen-a.result c.all_wide-after.result c.args.before c.narrow.result c.args.s.count c.widen-a.ensures _ _ _ (refl, c.if-count-eq0.false)
+    (counted_steps c.args.s c.args.opacity c.widen-a.result c.all_wide-after.result c.args.before c.narrow.result c.args.s.count c.widen-a.ensures _ _ _ (refl, c.if-count-eq0.false)
     (colours (goal.at.returns-then-sum c).After-known_colour-then-sum-2) c.all_wide-after.ensures c.requires c.narrow.ensures)
 
 pub known_colour-requires : goal.known_colour-requires

@@ -3,7 +3,7 @@ use Prim.Native.Nat.{ℕ, ◌+◌, ◌≤◌, ◌<◌}
 use lib.Ieee.{of_bits, div}
 use Rattle.grade.specs.PartLaws.{parted}
 use Rattle.grade.specs.Sweep.{change_at, best_of}
-use Rattle.grade.specs.SweepLaws.{best_means, best_of-taken, best_of-kept, swept-nothing, number_of, number-within, swept_none, swept-some}
+use Rattle.grade.specs.SweepLaws.{best_means, best_of-taken, best_of-kept, swept-nothing, number_of, number-within, swept_none, swept_by}
 use Rattle.grade.specs.Swept.{level, change_of, swept}
 use borrow.Author.Rules.{rules}
 use native.Mathlib.Omega.{arith}
@@ -55,7 +55,7 @@ pub returns : goal.returns
 unfolding swept
 returns c =
     let g = c.args in
-    swept-some g.s g.levels.now g.n (best_of (change_of g.s g.levels.now) g.n) c.loop-i.best c.finalize_from.result (number (goal.at.returns c).After-loop-i) c.if-best-n.false c.finalize_from.ensures
+    swept_by g.s g.levels.now g.n (best_of (change_of g.s g.levels.now) g.n) c.loop-i.best c.finalize_from.result (number (goal.at.returns c).After-loop-i) c.if-best-n.false c.finalize_from.ensures
 
 pub finalize_from-requires : goal.finalize_from-requires
 finalize_from-requires c =

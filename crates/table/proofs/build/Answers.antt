@@ -1,0 +1,42 @@
+use native.Mathlib.Omega.{arith}
+use mathlib.Core.Path.{sym, ap, ◌∙◌, subst}
+use Rattle.std.proofs.Math.Bool.{not}
+use Rattle.laws.specs.Bools.{true_is}
+use Rattle.float.specs.Within.{all_within}
+use Rattle.table.specs.Table.{Table, update_refusal}
+use Rattle.table.specs.FillLaws.{built}
+use Rattle.table.specs.TestLaws.{build_refused, bad_target, bad_canvas, build_pixel, build_done, sizes}
+use Rattle.table.proofs.build.Goals as goal
+
+-- `build`: the tests leave the sizes and no NaN to the rows' loop, which leaves the table (`built`).
+
+pub returns-then-no-ne0 : goal.returns-then-no-ne0
+returns-then-no-ne0 c =
+    let a = c.args in
+    build_refused a.target.now a.canvas.now a.w a.h a.table.now _ c.refused-no.ensures c.if-no-ne0.true
+
+pub returns-then-not-all_within : goal.returns-then-not-all_within
+returns-then-not-all_within c =
+    let a = c.args in
+    build_pixel a.target.now a.canvas.now a.w a.h a.table.now (sym c.refused-no.ensures ∙ c.if-no-ne0.false) (bad_target a.target.now a.canvas.now a.w a.h a.table.now _ c.all_within.ensures (ap not c.if-not-all_within.true))
+
+pub returns-then-not-all_within-2 : goal.returns-then-not-all_within-2
+returns-then-not-all_within-2 c =
+    let a = c.args in
+    build_pixel a.target.now a.canvas.now a.w a.h a.table.now (sym c.refused-no.ensures ∙ c.if-no-ne0.false) (bad_canvas a.target.now a.canvas.now a.w a.h a.table.now _ c.all_within-2.ensures (ap not c.if-not-all_within-2.true))
+
+pub rebuild_rows-requires : goal.rebuild_rows-requires
+unfolding update_refusal
+rebuild_rows-requires c =
+    let a = c.args in
+    let good = sym c.all_within.ensures ∙ c.if-not-all_within.false in
+    let kept = sym c.all_within-2.ensures ∙ c.if-not-all_within-2.false in
+    record { sizes = (sizes a.target.now a.canvas.now a.w a.h a.table.now (sym c.refused-no.ensures ∙ c.if-no-ne0.false), omega arith, omega arith); tested = λ _. (true_is (all_within a.target.now) good, true_is (all_within a.canvas.now) kept) }
+
+pub returns : goal.returns
+unfolding update_refusal
+returns c =
+    let a = c.args in
+    let e = sym c.refused-no.ensures ∙ c.if-no-ne0.false in
+    build_done a.target.now a.canvas.now a.w a.h a.table.now _ e (sym c.all_within.ensures ∙ c.if-not-all_within.false) (sym c.all_within-2.ensures ∙ c.if-not-all_within-2.false)
+    (subst (Table a.w a.h a.target.now a.canvas.now) (sym c.rebuild_rows.ensures) (built a.w a.h a.target.now a.canvas.now a.table.now (sizes a.target.now a.canvas.now a.w a.h a.table.now e).places))

@@ -1,0 +1,13 @@
+use mathlib.Core.Path.{◌≡◌}
+use Prim.Native.Nat.{◌+◌, ◌-◌, ◌*◌, ◌≤◌}
+use lib.ListN.{length}
+use Rattle.laws.specs.Rows.{put_rows}
+use Rattle.table.specs.Fills.{row_at}
+use Rattle.table.proofs.rebuild_rest.Given as goal
+
+abbrev pub invariant-loop-y : goal.invariant-loop-y
+invariant-loop-y l =
+    (l.lo ≤ l.y) × (l.y ≤ l.hi) × (l.table ≡ put_rows ((l.w + 1) * 15) (row_at l.whole l.w l.target l.canvas) l.lo l.y l.initial.table) × (length l.table ≡ l.h * ((l.w + 1) * 15))
+
+abbrev pub decreases-loop-y : goal.decreases-loop-y
+decreases-loop-y l = l.hi - l.y

@@ -1,0 +1,32 @@
+use mir.Facts.{to_z-of_z}
+use mathlib.Core.Path.{refl, sym, ◌∙◌, subst}
+use Rattle.laws.specs.Fit.{no_both}
+use Rattle.table.specs.Table.{Updated, update_refusal}
+use Rattle.table.specs.FillLaws.{updated}
+use Rattle.table.specs.TestLaws.{update_refused, update_done, sizes}
+use Rattle.table.proofs.update_canvas_rows.Goals as goal
+
+-- `update_canvas_rows`: the two ends name the rows of the rule (`updated`).
+
+pub returns-then-no-ne0 : goal.returns-then-no-ne0
+returns-then-no-ne0 c =
+    let a = c.args in
+    update_refused a.target.now a.canvas.now a.w a.h a.table.now a.ymin a.ymax _ c.refused-no.ensures c.if-no-ne0.true
+
+pub rebuild_rows-requires : goal.rebuild_rows-requires
+unfolding update_refusal
+rebuild_rows-requires c =
+    let a = c.args in
+    record { sizes = (sizes a.target.now a.canvas.now a.w a.h a.table.now (sym c.refused-no.ensures ∙ c.if-no-ne0.false), c.first_row-lo.ensures.0, c.end_row-hi.ensures.0); tested = λ e. no_both e refl }
+
+pub returns : goal.returns
+unfolding update_refusal
+returns c =
+    let a = c.args in
+    let e = sym c.refused-no.ensures ∙ c.if-no-ne0.false in
+    let hi = c.end_row-hi.ensures in
+    let lo = c.first_row-lo.ensures in
+    update_done a.target.now a.canvas.now a.w a.h a.table.now a.ymin a.ymax _ e
+    (subst (Updated a.w a.h a.target.now a.canvas.now a.ymin a.ymax a.table.now) (sym c.rebuild_rows.ensures)
+    (updated a.w a.h a.target.now a.canvas.now a.table.now (sizes a.target.now a.canvas.now a.w a.h a.table.now e).places _ _ lo.0 hi.0 a.ymin a.ymax
+    (λ y l. rw (to_z-of_z, c.ranges.ymin) at (lo.1 y l)) (λ y l. rw (to_z-of_z, c.ranges.ymax) at (hi.1 y l))))
