@@ -1,6 +1,6 @@
 -- Laws: two answers are equal; a turn of each loop, and its end.
-use Rattle.std.specs.Prelude.{◌≡◌, refl, Bool, true, false, cond, List, [], ◌∷◌, ◌++◌, ℕ, zero, suc, ◌+◌, ◌-◌, ◌≤◌, ◌<◌, length, take, drop, get_or, set, Float}
-use Rattle.std.proofs.Common.{sym, ap, ◌∙◌, append-nil, add-one, arith, drop_of_length-le, take-suc-set, take_all, drop-cons}
+use Rattle.std.specs.Prelude.{◌≡◌, refl, true, false, cond, List, [], ◌∷◌, ◌++◌, ℕ, suc, ◌+◌, ◌-◌, ◌≤◌, ◌<◌, length, take, drop, get_or, set, Float}
+use Rattle.std.proofs.Common.{sym, ◌∙◌, append-nil, add-one, arith, drop_of_length-le, take-suc-set, take_all, drop-cons}
 use Rattle.std.proofs.Math.Seq.{append_snoc}
 use Rattle.std.specs.Float.Ieee.{ne}
 use Rattle.laws.specs.F32.{◌⊞◌}

@@ -4,6 +4,7 @@
 
 ghost use Rattle.figures.specs.Figures.{SlopeSays, DifferingSays};
 
+use std::io;
 use sums::ShapeSums;
 
 // A first number, and each next one a step from the one before.
@@ -37,47 +38,48 @@ pub fn differing(a: &[f64], b: &[f64]) -> usize
     n
 }
 
-pub fn number(x: f32) {
-    show::text(b" ");
-    show::hex(float::bits32(x) as u64, 8);
+pub fn number(rt: &impl Print, x: f32) -> io::Result<()> {
+    show::text(rt, " ")?;
+    show::hex(rt, float::bits32(x) as u64, 8)
 }
 
-fn wide(x: f64) {
-    show::text(b" ");
-    show::hex(float::bits64(x), 16);
+fn wide(rt: &impl Print, x: f64) -> io::Result<()> {
+    show::text(rt, " ")?;
+    show::hex(rt, float::bits64(x), 16)
 }
 
 // A line ends behind each `across` numbers, and so behind the last where they fill it.
-pub fn numbers(xs: &[f32], across: usize) {
+pub fn numbers(rt: &impl Print, xs: &[f32], across: usize) -> io::Result<()> {
     let mut k = 0;
     for i in 0..xs.len() {
-        number(xs[i]);
+        number(rt, xs[i])?;
         k += 1;
         if k == across {
-            show::text(b"\n");
+            show::text(rt, "\n")?;
             k = 0;
         }
     }
+    Ok(())
 }
 
 // A line of three f64.
-pub fn three(xs: [f64; 3]) {
-    wide(xs[0]);
-    wide(xs[1]);
-    wide(xs[2]);
-    show::text(b"\n");
+pub fn three(rt: &impl Print, xs: [f64; 3]) -> io::Result<()> {
+    wide(rt, xs[0])?;
+    wide(rt, xs[1])?;
+    wide(rt, xs[2])?;
+    show::text(rt, "\n")
 }
 
 // The five sums, a line each.
-pub fn series(s: ShapeSums) {
+pub fn series(rt: &impl Print, s: ShapeSums) -> io::Result<()> {
     let t = s.s_t;
     let c = s.s_c;
     let tt = s.s_t2;
     let cc = s.s_c2;
     let tc = s.s_tc;
-    three(t);
-    three(c);
-    three(tt);
-    three(cc);
-    three(tc);
+    three(rt, t)?;
+    three(rt, c)?;
+    three(rt, tt)?;
+    three(rt, cc)?;
+    three(rt, tc)
 }

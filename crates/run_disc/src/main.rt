@@ -4,29 +4,31 @@
 ghost use Rattle.std.specs.Prelude.{nat_abs};
 ghost use Rattle.laws.specs.Bound.{Bounded};
 
-fn half(r: i32, dy: i32)
+use std::io;
+
+fn half(rt: &impl Print, r: i32, dy: i32) -> io::Result<()>
     requires { Bounded 8191 r × Bounded (nat_abs r) dy }
 {
-    show::text(b"half width, r ");
-    show::signed32(r);
-    show::text(b" dy ");
-    show::signed32(dy);
-    show::text(b": ");
-    show::signed32(disc::half_width(r, dy));
-    show::text(b"\n");
+    show::text(rt, "half width, r ")?;
+    show::signed32(rt, r)?;
+    show::text(rt, " dy ")?;
+    show::signed32(rt, dy)?;
+    show::text(rt, ": ")?;
+    show::signed32(rt, disc::half_width(r, dy))?;
+    show::text(rt, "\n")
 }
 
-fn main() {
-    half(5, 0);
-    half(5, 3);
-    half(5, 4);
-    half(5, 5);
-    half(127, 1);
-    half(128, 1);
-    half(127, 127);
-    half(1, 0);
-    half(8191, 0);
-    half(8191, -8191);
-    half(8191, 8190);
-    half(-5, 3);
+fn main(rt: HostRuntime) -> io::Result<()> {
+    half(&rt, 5, 0)?;
+    half(&rt, 5, 3)?;
+    half(&rt, 5, 4)?;
+    half(&rt, 5, 5)?;
+    half(&rt, 127, 1)?;
+    half(&rt, 128, 1)?;
+    half(&rt, 127, 127)?;
+    half(&rt, 1, 0)?;
+    half(&rt, 8191, 0)?;
+    half(&rt, 8191, -8191)?;
+    half(&rt, 8191, 8190)?;
+    half(&rt, -5, 3)
 }
