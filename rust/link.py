@@ -14,13 +14,18 @@ import sys
 ROOT = os.path.dirname(os.path.dirname(os.path.abspath(__file__)))
 TARGET = os.path.join(ROOT, "target")
 
-# The processor that the prover writes code for. What is made of our side takes the processor that it is made for, this one unless
-# another is named; for another our code is compiled from the same LLVM modules by bench/native-archive.
+# The processor that `rt lib` and `rt run` make code for. What is made of our side takes the processor that it is made for, this one unless
+# another is named; for another bench/native-archive makes it. What is for Arm here was not run with today's kit, for want of an Arm machine
+# or an emulator: its archives were made on x86-64, and their code was read.
 OURS = "x86_64"
+
+# Exports that stand in a crate of their own, above the library that they are the face of. Its archive has that library's name.
+FACE_OF = {"probe_picture_c": "probe_picture"}
 
 
 def exporting():
-    """The crates that export C functions: `capi`, the published face, and each `probe_NAME`, for tests alone."""
+    """The crates that export C functions, and those whose structs they hand over: `capi`, the published face, and each `probe_NAME`,
+    for tests alone."""
     names = sorted(os.listdir(os.path.join(ROOT, "crates")))
     return [n for n in names if n == "capi" or n.startswith("probe_")]
 
@@ -73,7 +78,7 @@ def source(crate):
     return "\n".join(texts)
 
 
-EXPORT = re.compile(r'((?:^//[^\n]*\n)*)#\[no_mangle\]\s*pub extern "C" fn (\w+)\s*\(([^)]*)\)\s*(?:->\s*([^\s{]+))?', re.M)
+EXPORT = re.compile(r'((?:^//[^\n]*\n)*)#\[unsafe\(no_mangle\)\]\s*pub extern "C" fn (\w+)\s*\(([^)]*)\)\s*(?:->\s*([^\s{]+))?', re.M)
 
 
 def told(comments):
@@ -97,7 +102,7 @@ def exports(crate):
     return [e for e, _ in documented(crate)]
 
 
-STRUCT = re.compile(r"((?:^//[^\n]*\n)*)#\[repr\(C\)\]\s*pub struct (\w+) \{([^}]*)\}", re.M)
+STRUCT = re.compile(r"((?:^//[^\n]*\n)*)#\[repr\(C\)\]\s*(?:#\[derive\([^)]*\)\]\s*)?pub struct (\w+) \{([^}]*)\}", re.M)
 
 
 def structs(crate):
@@ -105,57 +110,8 @@ def structs(crate):
     return {m.group(2): f"#[derive(Clone, Copy, Debug, PartialEq)]\n#[repr(C)]\npub struct {m.group(2)} {{{m.group(3)}}}" for m in STRUCT.finditer(source(crate))}
 
 
-SIZES = {"u8": 1, "bool": 1, "u16": 2, "i16": 2, "u32": 4, "i32": 4, "f32": 4, "u64": 8, "i64": 8, "usize": 8, "isize": 8, "f64": 8}
-
-
-def eights(text):
-    """The eights of bytes of a `#[repr(C)]` struct, each with the kinds of number in it."""
-    at, found = 0, []
-    for kind, count in re.findall(r"pub \w+: \[?(\w+)(?:; (\d+)\])?,", text):
-        for _ in range(int(count or 1)):
-            at = -(-at // SIZES[kind]) * SIZES[kind]
-            found += [set() for _ in range(at // 8 + 1 - len(found))]
-            found[at // 8].add(kind)
-            at += SIZES[kind]
-    return found
-
-
-def assembled(name, lines):
-    """A Rust item with a routine in assembly."""
-    every = [f".global {name}", f"{name}:", "stp x29, x30, [sp, #-16]!", "mov x29, sp", *lines, "mov sp, x29", "ldp x29, x30, [sp], #16", "ret"]
-    return "std::arch::global_asm!(" + ", ".join(f'"{line}"' for line in every) + ");\n"
-
-
-# Our modules hand over a struct as C does on x86-64: above 16 bytes at a place that comes as the first argument, else in the registers
-# for whole numbers or for floats, eight bytes in each; one that is taken lies on the stack. Compiled for Arm they still do, and C there
-# wants the first place in a register of its own, small ones in the registers for whole numbers, and takes a large one by its place.
-def turned(name, args, result, known):
-    """On Arm: Rust's words before the call, the declaration's and the call's first parts, what follows, more source, the routine's name."""
-    parts = eights(known[result])
-    if args and args[0][1] in known:
-        over, taken = f"over_{name}", eights(known[args[0][1]])
-        if len(parts) <= 2 or len(taken) <= 2:
-            die(f"the export {name} takes a struct, and rust/link.py does not know how to turn it for Arm")
-        room = (len(taken) + 1) // 2 * 16
-        lines = [f"sub sp, sp, #{room}"]
-        for i in range(len(taken)):
-            lines += [f"ldr x9, [x1, #{8 * i}]", f"str x9, [sp, #{8 * i}]"]
-        lines += [f"mov x{i}, x{i + 1}" for i in range(1, 7)] + [f"bl {name}"]
-        return f"let mut answer = std::mem::MaybeUninit::<{result}>::uninit(); ", [f"answer: *mut {result}"], ["answer.as_mut_ptr()"], "; answer.assume_init()", assembled(over, lines), over
-    if len(parts) > 2:
-        return f"let mut answer = std::mem::MaybeUninit::<{result}>::uninit(); ", [f"answer: *mut {result}"], ["answer.as_mut_ptr()"], "; answer.assume_init()", "", name
-    if parts[-1] <= {"f32", "f64"} and not parts[0] <= {"f32", "f64"}:
-        if len(args) > 6:
-            die(f"the export {name} takes more than Arm's eight registers: rust/link.py does not know how to turn its answer")
-        over = f"over_{name}"
-        return "", [], [], "", assembled(over, [f"bl {name}", "fmov x1, d0"]), over
-    if any(p & {"f32", "f64"} and not p - {"f32", "f64"} for p in parts):
-        die(f"the export {name} answers a struct that rust/link.py does not know how to turn for Arm")
-    return "", [], [], "", "", name
-
-
-def bound(export, known, arm=False):
-    """The C declaration of an export, and a safe Rust function over it. With arm: over our module compiled for Arm."""
+def bound(export, known):
+    """The C declaration of an export, and a safe Rust function over it."""
     name, args, result = export
     declared, taken, handed = [], [], []
     for arg, kind in args:
@@ -170,19 +126,15 @@ def bound(export, known, arm=False):
             pointer = "*mut" if one.group(1) else "*const"
             declared.append(f"{arg}: {pointer} {one.group(2)}")
             handed.append(arg)
-        elif arm and kind in known:
-            declared.append(f"{arg}: *const {kind}")
-            handed.append(f"&{arg}")
         elif re.fullmatch(SCALAR, kind) or kind in known:
             declared.append(f"{arg}: {kind}")
             handed.append(arg)
         else:
             die(f"the export {name} has a parameter of the type {kind}, which rust/link.py does not know")
     back = f" -> {result}" if result else ""
-    before, first, given, after, more, called = turned(name, args, result, known) if arm and result in known else ("", [], [], "", "", name)
     return (
-        f"    pub fn {called}({', '.join(first + declared)}){'' if first else back};",
-        f"{more}#[inline]\npub fn {name}({', '.join(taken)}){back} {{\n    unsafe {{ {before}c::{called}({', '.join(given + handed)}){after} }}\n}}\n",
+        f"    pub fn {name}({', '.join(declared)}){back};",
+        f"#[inline]\npub fn {name}({', '.join(taken)}){back} {{\n    unsafe {{ c::{name}({', '.join(handed)}) }}\n}}\n",
     )
 
 
@@ -193,10 +145,10 @@ def write(path, text):
             f.write(text)
 
 
-def module(crates, head, arm=False):
+def module(crates, head):
     """A Rust module with the exports of crates: the declarations, and a safe function over each."""
     known = {name: text for crate in crates for name, text in structs(crate).items()}
-    pairs = [(bound(e, known, arm), comment) for crate in crates for e, comment in documented(crate)]
+    pairs = [(bound(e, known), comment) for crate in crates for e, comment in documented(crate)]
     declared = "\n".join(p[0] for p, _ in pairs)
     safe = "\n".join((f"/// {comment}\n" if comment else "") + p[1] for p, comment in pairs)
     return (
@@ -206,15 +158,15 @@ def module(crates, head, arm=False):
     )
 
 
-def bindings(path, machine=OURS):
-    """Writes the Rust module `ours` over our code for a processor, and answers the names in it."""
+def bindings(path):
+    """Writes the Rust module `ours` over our code, and answers the names in it. It is the same for each processor."""
     head = (
         "// Made by rust/link.py from the sources of the exporting crates.\n"
         "#![allow(dead_code)]\n"
         "#![allow(unused_imports)]\n"
         "#![allow(clippy::too_many_arguments)]\n\n"
     )
-    write(path, module(exporting(), head, machine != OURS))
+    write(path, module(exporting(), head))
     return {e[0] for crate in exporting() for e in exports(crate)}
 
 
@@ -244,13 +196,13 @@ def header(crate):
 
 
 def below():
-    """Each crate's own dependencies, from crates.txt."""
+    """Each crate's own dependencies, from crates.txt. After a crate's name its kind may stand there."""
     found = {}
     with open(os.path.join(ROOT, "crates.txt"), encoding="utf-8") as f:
         for line in f:
             name, colon, rest = line.split("#")[0].partition(":")
             if colon:
-                found[name.strip()] = rest.split()
+                found[name.split()[0]] = rest.split()
     return found
 
 
@@ -281,7 +233,7 @@ def made(archive, now):
 
 
 def compiled(name, out, machine):
-    """Compiles the module of a proved crate for a processor."""
+    """Proves a crate and compiles it for another processor."""
     call(["sh", os.path.join(ROOT, "bench", "native-archive"), name, out, machine], cwd=ROOT)
 
 
@@ -289,39 +241,49 @@ def archives(machine=OURS, only=None):
     """Proves and archives the exporting crates, or one of them, for a processor; answers the linker's words."""
     need("rt", "the Rattle toolchain proves and archives our side")
     words = []
-    where = os.path.join(TARGET, "staticlib" if machine == OURS else machine)
+    where = os.path.dirname(archive("capi", machine))
     os.makedirs(where, exist_ok=True)
     for crate in exporting():
         if not exports(crate) or only not in (None, crate):
             continue
-        archive = os.path.join(where, f"lib{crate}.a")
+        out = archive(crate, machine)
         now = digest(crate)
-        if not made(archive, now):
-            how = ["rt", "staticlib" if machine == OURS else "check", crate]
-            done = subprocess.run(how, cwd=ROOT, stdout=subprocess.PIPE, stderr=subprocess.STDOUT, text=True)
-            if done.returncode != 0:
-                die(done.stdout + " ".join(how) + " failed")
-            if machine != OURS:
-                compiled(crate, archive, machine)
-            write(archive + ".of", now)
-        words += ["-L", f"native={where}", "-l", f"static={crate}"]
+        if not made(out, now):
+            if machine == OURS:
+                folder = os.path.join(ROOT, "crates", crate)
+                done = subprocess.run(["rt", "lib"], cwd=folder, stdin=subprocess.DEVNULL, stdout=subprocess.PIPE, stderr=subprocess.STDOUT, text=True)
+                if done.returncode != 0:
+                    die(done.stdout + f"rt lib in crates/{crate} failed")
+                shutil.copyfile(os.path.join(folder, "out", f"lib{crate}.a"), out)
+            else:
+                compiled(crate, out, machine)
+            write(out + ".of", now)
+        words += ["-L", f"native={where}", "-l", f"static={FACE_OF.get(crate, crate)}"]
     return words
+
+
+def archive(crate, machine=OURS):
+    """Where `archives` puts the archive of a crate."""
+    return os.path.join(TARGET, "staticlib" if machine == OURS else machine, f"lib{FACE_OF.get(crate, crate)}.a")
 
 
 def program(name, machine=OURS):
     """Proves and builds a program of ours for a processor; answers the words that run it."""
     need("rt", "the Rattle toolchain proves and builds our programs")
-    done = subprocess.run(["rt", "check", name], cwd=ROOT, stdout=subprocess.PIPE, stderr=subprocess.STDOUT, text=True)
-    if done.returncode != 0:
-        die(done.stdout + f"rt check {name} failed")
-    out = os.path.join(TARGET, "bin" if machine == OURS else machine, name)
     if machine != OURS:
+        out = os.path.join(TARGET, machine, name)
         now = digest(name)
         if not made(out, now):
             os.makedirs(os.path.dirname(out), exist_ok=True)
             compiled(name, out, machine)
             write(out + ".of", now)
-    return [*runner(machine), out]
+        return [*runner(machine), out]
+    # `rt run` runs it once, here with no input. Where another processor cannot run it, that it was built is told all the same.
+    folder = os.path.join(ROOT, "crates", name)
+    done = subprocess.run(["rt", "run"], cwd=folder, stdin=subprocess.DEVNULL, stdout=subprocess.PIPE, stderr=subprocess.STDOUT, text=True, errors="replace")
+    if done.returncode != 0 and (here() == OURS or not re.search(r"^rt: running out/", done.stdout, re.M)):
+        die(done.stdout + f"rt run in crates/{name} failed")
+    return [*runner(machine), os.path.join(folder, "out", name)]
 
 
 # ---- Rust

@@ -6,12 +6,11 @@ use Rattle.std.proofs.Math.Bool.{cond}
 use Rattle.std.proofs.Math.Logic.{⊎_elim}
 use Rattle.std.specs.Int.Signed.{le_z}
 use Rattle.laws.specs.Parts.{zord, of-, one_zero}
-use Rattle.laws.specs.Order.{≤ℤ-or-<ℤ, ≤ℤ-trans}
+use Rattle.laws.specs.Order.{≤ℤ-or-<ℤ}
 use Rattle.laws.specs.Bools.{true_or_false, is_true}
-use Rattle.laws.specs.Fit.{le_true, lt_true, le_false, of_abs}
+use Rattle.laws.specs.Fit.{le_true, lt_true, of_abs}
 use Rattle.laws.specs.Ends.{none, ends_of}
 use Rattle.laws.specs.EndsLaws.{ended, ended_unique}
-use Rattle.whole.specs.Whole.{lesser, greater}
 use Rattle.whole.specs.WholeLaws.{greater_high, greater_low, lesser_low, lesser_high}
 use Rattle.cover.specs.declared.Kind.{Kind}
 use Rattle.cover.specs.declared.reached.Rows.{Rows}

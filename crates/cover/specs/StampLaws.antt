@@ -1,19 +1,19 @@
 -- Laws: a tiny shape lies in its window; stamps of moved shapes; two stamps that are known are one.
-use Rattle.std.specs.Prelude.{◌≡◌, Bool, true, ◌&&◌, cond, List, [], ◌∷◌, ℕ, ◌+◌, ◌≤◌, ◌<◌, ℤ, pos, ◌+ℤ◌, ◌-ℤ◌, ◌*ℤ◌, ◌≤ℤ◌, ◌<ℤ◌}
+use Rattle.std.specs.Prelude.{◌≡◌, Bool, true, ◌&&◌, cond, [], ◌∷◌, ℕ, ◌+◌, ℤ, pos, ◌+ℤ◌, ◌-ℤ◌, ◌≤ℤ◌, ◌<ℤ◌}
 use Rattle.std.proofs.Math.Path.{refl}
-use Rattle.std.proofs.Common.{sym, ◌∙◌, ap, ap₂, subst, arith}
+use Rattle.std.proofs.Common.{sym, ◌∙◌, ap, ap₂, arith}
 use Rattle.std.specs.Int.Signed.{le_z, lt_z}
 use Rattle.laws.specs.Parts.{zord, of+, of-}
-use Rattle.laws.specs.Poly.{x, c, ◌⊞◌, ◌⊟◌, ◌⊠◌, ring}
+use Rattle.laws.specs.Poly.{x, ◌⊞◌, ◌⊟◌, ◌⊠◌, ring}
 use Rattle.laws.specs.Bools.{and_left, and_right}
 use Rattle.laws.specs.Fit.{le_true, lt_true}
 use Rattle.laws.specs.Runs.{all_hold}
 use Rattle.disc.specs.Disc.{disc_tests, square}
-use Rattle.polygon.specs.Polygon.{Point, at, side, area2, area_test, edge_test, polygon, polygon_tests, polygon_pixel, corners, least_of, greatest_of}
+use Rattle.polygon.specs.Polygon.{Point, at, side, polygon, polygon_tests, polygon_pixel, corners, least_of, greatest_of}
 use Rattle.polygon.specs.OneRow.{four}
 use Rattle.polygon.specs.Box.{lesser-left, lesser-right, greater-left, greater-right}
 use Rattle.whole.specs.Whole.{lesser, greater}
-use Rattle.stamp.specs.Stamp.{stamp_of, Eighth, CircleStampSays, PolygonStampSays}
+use Rattle.stamp.specs.Stamp.{Eighth, CircleStampSays, PolygonStampSays}
 use Rattle.stamp.specs.Digits.{InWindow}
 use Rattle.stamp.specs.DigitLaws.{stamp_moved, stamp_same}
 use Rattle.cover.specs.declared.Kind.{Kind}

@@ -1,6 +1,5 @@
 -- Rules: the covered pixels of a tiny shape as a stamp: eight rows of eight pixels, as the binary digits of a number.
 use Rattle.std.specs.Prelude.{◌≡◌, ℕ, ◌+◌, ℤ, pos, ◌≤ℤ◌, ◌<ℤ◌}
-use Rattle.cover.specs.declared.reached.Rows.{Rows}
 use Rattle.polygon.specs.Polygon.{least_of, greatest_of}
 use Rattle.polygon.specs.OneRow.{four}
 use Rattle.stamp.specs.Stamp.{stamp_of}

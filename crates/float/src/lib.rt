@@ -222,6 +222,7 @@ pub fn bits64(x: f64) -> u64
 }
 
 // The f32 with the pattern b; a NaN for a NaN's.
+#[tactic(auto, using(crate::specs::Numbers::nan32, crate::specs::Numbers::above_nan, crate::specs::Numbers::upto_no_nan))]
 pub fn of_bits32(b: u32) -> f32
     ensures { OfBits32Says b result }
 {

@@ -1,5 +1,5 @@
 -- Laws: document 01's worked example, and signed coordinates, computed on the rules of frames and answers.
-use Rattle.std.specs.Prelude.{◌≡◌, refl, List, [], ◌∷◌, pos, negsuc}
+use Rattle.std.specs.Prelude.{◌≡◌, refl, [], ◌∷◌, pos, negsuc}
 use Rattle.cover.specs.declared.Kind.TheVariants.{Circle, Triangle, Quad}
 use Rattle.frame.specs.declared.Values.{Values}
 use Rattle.frame.specs.declared.Answer.TheVariants.{Made, Set, Scored, Painted, Refused}

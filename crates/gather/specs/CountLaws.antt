@@ -1,9 +1,9 @@
 -- Laws: the count of both engines is the number of covered pixels, as the cover counts them.
 use Rattle.std.specs.Prelude.{◌≡◌, Bool, cond, List, Float}
 use Rattle.std.proofs.Math.Path.{refl}
-use Rattle.std.proofs.Common.{sym, ◌∙◌, ap}
+use Rattle.std.proofs.Common.{◌∙◌}
 use Rattle.std.proofs.Math.Bool.{true, false}
-use Prim.Native.Nat.{ℕ, zero, suc, ◌+◌, ◌-◌, ◌≤◌}
+use Prim.Native.Nat.{ℕ, zero, suc, ◌+◌, ◌-◌}
 use native.Mathlib.Omega.{arith}
 use Rattle.laws.specs.Ends.{Ends, none, ends, ends_of, left_of, right_of, how_many, total, bit}
 use Rattle.laws.specs.EndsLaws.{ends_run, run-count}

@@ -1,7 +1,7 @@
 -- Laws: what each row adds to the sums of a shape, and what the rows of its reach come to; one answer for each promise.
-use Rattle.std.specs.Prelude.{◌≡◌, refl, Bool, true, cond, ◌⊎◌, List, T, Float, length, get_or, take, drop}
+use Rattle.std.specs.Prelude.{◌≡◌, refl, Bool, cond, List, T, Float, length, get_or, take, drop}
 use Rattle.std.proofs.Math.Path.{sym, ap, ap₂}
-use Rattle.std.proofs.Common.{◌∙◌, subst, inl, inr, mul-le-mul_right, lt-ltb, le-ltb, length-drop, get_or-take, get_or-drop, length-take-le}
+use Rattle.std.proofs.Common.{◌∙◌, subst, mul-le-mul_right, lt-ltb, le-ltb, length-drop, get_or-take, get_or-drop, length-take-le}
 use Prim.Native.Nat.{ℕ, zero, suc, ◌+◌, ◌-◌, ◌*◌, ◌≤◌, ◌<◌}
 use native.Mathlib.Omega.{arith}
 use Rattle.refusal.specs.Refusals.{Sized}
@@ -16,7 +16,7 @@ use Rattle.laws.specs.RowFold.{rows_from}
 use Rattle.laws.specs.RowFoldLaws.{rows_none, rows_more, rows_same, rows-window, span_rows, point_rows, run-pixels}
 use Rattle.cover.specs.declared.Kind.{Kind}
 use Rattle.cover.specs.Cover.{covered, RunsSays}
-use Rattle.cover.specs.CoverLaws.{left_at, right_at, left-ends, right-ends, row_run_lem, run_bounds}
+use Rattle.cover.specs.CoverLaws.{left-ends, right-ends, row_run_lem, run_bounds}
 use Rattle.cover.specs.ReachRows.{reach_rows, ReachRowsSays}
 use Rattle.cover.specs.declared.reached.Rows.{Rows}
 use Rattle.cover.specs.ReachRowsLaws.{through}

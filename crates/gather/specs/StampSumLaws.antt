@@ -1,5 +1,5 @@
 -- Laws: the loops over a stamp, and what they come to.
-use Rattle.std.specs.Prelude.{◌≡◌, Bool, true, ◌&&◌, List, eqb, leb, ltb, Float}
+use Rattle.std.specs.Prelude.{◌≡◌, Bool, true, ◌&&◌, List, leb, ltb, Float}
 use Rattle.std.proofs.Math.Path.{refl, ap}
 use Rattle.std.proofs.Common.{sym, ◌∙◌, ap₂, subst, pow-suc, mul_comm, mul_assoc, mul-le-mul, mul-le-mul_right, eqb→eq, ltb-true}
 use Prim.Native.Nat.{ℕ, zero, suc, ◌+◌, ◌-◌, ◌*◌, ◌/◌, ◌%◌, ◌^◌, ◌≤◌, ◌<◌}
@@ -8,13 +8,13 @@ use native.Mathlib.Omega.{arith}
 use Rattle.std.proofs.lemmas.Nat.{and_le_l, leading_top}
 use Rattle.std.specs.Int.Count.{count_trailing_zeros, count_leading_zeros}
 use Rattle.laws.specs.Bools.{true_is, and_right}
-use Rattle.laws.specs.Ends.{Ends, ends, ends_of}
+use Rattle.laws.specs.Ends.{Ends}
 use Rattle.laws.specs.EndsLaws.{Ended, ended}
 use Rattle.laws.specs.PixelSums.{add_span}
 use Rattle.sums.specs.declared.ShapeSums.{ShapeSums}
 use Rattle.sums.specs.Sums.{no_sums, plus, minus}
 use Rattle.table.specs.Layout.{place_of}
-use Rattle.stamp.specs.Digits.{digit_is, without_first, digit_steps, row_steps, row_ends}
+use Rattle.stamp.specs.Digits.{digit_is, without_first, row_steps}
 use Rattle.stamp.specs.DigitLaws.{first, without-digit, steps_none, row_steps-none, digit-test, digits_row_at}
 use Rattle.stamp.specs.StampLaws.{digits_below}
 use Rattle.stamp.specs.Stamp.{digits_from}

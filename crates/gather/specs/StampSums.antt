@@ -1,5 +1,5 @@
 -- Rules: what the loops over a stamp add up, for the contracts of their steps. The score itself is said by `span_sums` and `point_sums`.
-use Rattle.std.specs.Prelude.{◌≡◌, List, ℕ, ◌+◌, ◌-◌, ◌*◌, ◌/◌, ◌%◌, ◌^◌, ◌≤◌, ◌<◌, Float}
+use Rattle.std.specs.Prelude.{◌≡◌, List, ℕ, ◌+◌, ◌*◌, ◌/◌, ◌%◌, ◌^◌, ◌≤◌, ◌<◌, Float}
 use Rattle.std.specs.Int.Count.{count_trailing_zeros}
 use Rattle.laws.specs.PixelSums.{add_span}
 use Rattle.sums.specs.declared.ShapeSums.{ShapeSums}

@@ -20,6 +20,7 @@ pub const COLOUR: u8 = 6;
 pub const PIXEL: u8 = 7;
 
 // w or h outside 1..256
+#[tactic(auto, unfolding(crate::specs::Refusals::bad_size))]
 pub fn bad_size(w: usize, h: usize) -> bool
     ensures { BadSizeSays w h result }
 {
@@ -36,6 +37,7 @@ pub fn bad_size(w: usize, h: usize) -> bool
 }
 
 // a coordinate or radius outside -8191..8191
+#[tactic(auto, unfolding(crate::specs::Refusals::bad_place))]
 pub fn bad_place(z: i32) -> bool
     ensures { BadPlaceSays z result }
 {

@@ -1,6 +1,6 @@
 -- Laws: each promise has one answer; ranges of lists put together; candidates one after another, and the candidate of a trial.
-use Rattle.std.specs.Prelude.{◌≡◌, refl, Bool, true, false, not, ◌&&◌, List, [], ◌∷◌, ◌++◌, map, ℕ, zero, suc, ◌+◌, ◌<◌, ◌≤◌, min, T, length, take, get_or}
-use Rattle.std.proofs.Common.{sym, ap, subst, ◌∙◌, append-nil, add-one, arith, ⊎_elim, length-take, take-suc, take_all, get_or-take, length-take-le}
+use Rattle.std.specs.Prelude.{◌≡◌, refl, Bool, true, false, ◌&&◌, List, [], ◌∷◌, ◌++◌, map, ℕ, zero, suc, ◌+◌, ◌<◌, ◌≤◌, min, T, length, take, get_or}
+use Rattle.std.proofs.Common.{sym, ap, subst, ◌∙◌, add-one, arith, ⊎_elim, length-take, take-suc, take_all, get_or-take}
 use Rattle.std.proofs.Math.Option.{Option, none, some, some-injective}
 use Rattle.std.specs.Float.Ieee.Fits.{and_i, and_l, and_r}
 use Rattle.std.proofs.lemmas.List.{length-map}

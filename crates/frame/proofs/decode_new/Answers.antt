@@ -1,0 +1,13 @@
+use mathlib.Core.Path.{refl}
+use Rattle.frame.specs.FrameLaws.{asks_new, no_new}
+use Rattle.frame.specs.Frames.{DecodeSays}
+use Rattle.frame.proofs.decode_new.Goals as goal
+
+-- `frame::decode_new` meets its contract: six bytes are the frame of what stands in them.
+
+pub returns-then-bytes-eq6 : goal.returns-then-bytes-eq6
+returns-then-bytes-eq6 c =
+    DecodeSays.asked _ (asks_new c.args.bytes.now c.if-bytes-eq6.true c.requires.1 (λ k. (c.type_inv.bytes k).fits)) refl
+
+pub returns-else-bytes-eq6 : goal.returns-else-bytes-eq6
+returns-else-bytes-eq6 c = DecodeSays.refused (no_new c.args.bytes.now c.requires.1 c.if-bytes-eq6.false) refl
