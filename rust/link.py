@@ -15,8 +15,8 @@ ROOT = os.path.dirname(os.path.dirname(os.path.abspath(__file__)))
 TARGET = os.path.join(ROOT, "target")
 
 # The processor that `rt lib` and `rt run` make code for. What is made of our side takes the processor that it is made for, this one unless
-# another is named; for another bench/native-archive makes the archives. What is for Arm here was not run with today's kit, for want of an
-# Arm machine or an emulator: its archives were made on x86-64, and their code was read.
+# another is named; for another bench/native-archive makes it. What is for Arm here was not run with today's kit, for want of an Arm machine
+# or an emulator: its archives were made on x86-64, and their code was read.
 OURS = "x86_64"
 
 # Exports that stand in a crate of their own, above the library that they are the face of. Its archive has that library's name.
@@ -232,6 +232,11 @@ def made(archive, now):
         return False
 
 
+def compiled(name, out, machine):
+    """Proves a crate and compiles it for another processor."""
+    call(["sh", os.path.join(ROOT, "bench", "native-archive"), name, out, machine], cwd=ROOT)
+
+
 def archives(machine=OURS, only=None):
     """Proves and archives the exporting crates, or one of them, for a processor; answers the linker's words."""
     need("rt", "the Rattle toolchain proves and archives our side")
@@ -251,7 +256,7 @@ def archives(machine=OURS, only=None):
                     die(done.stdout + f"rt lib in crates/{crate} failed")
                 shutil.copyfile(os.path.join(folder, "out", f"lib{crate}.a"), out)
             else:
-                call(["sh", os.path.join(ROOT, "bench", "native-archive"), crate, out, machine], cwd=ROOT)
+                compiled(crate, out, machine)
             write(out + ".of", now)
         words += ["-L", f"native={where}", "-l", f"static={FACE_OF.get(crate, crate)}"]
     return words
@@ -262,16 +267,23 @@ def archive(crate, machine=OURS):
     return os.path.join(TARGET, "staticlib" if machine == OURS else machine, f"lib{FACE_OF.get(crate, crate)}.a")
 
 
-def program(name):
-    """Proves and builds a program of ours, for x86-64; answers the words that run it. `rt run` runs it once, with no input."""
+def program(name, machine=OURS):
+    """Proves and builds a program of ours for a processor; answers the words that run it."""
     need("rt", "the Rattle toolchain proves and builds our programs")
+    if machine != OURS:
+        out = os.path.join(TARGET, machine, name)
+        now = digest(name)
+        if not made(out, now):
+            os.makedirs(os.path.dirname(out), exist_ok=True)
+            compiled(name, out, machine)
+            write(out + ".of", now)
+        return [*runner(machine), out]
+    # `rt run` runs it once, here with no input. Where another processor cannot run it, that it was built is told all the same.
     folder = os.path.join(ROOT, "crates", name)
     done = subprocess.run(["rt", "run"], cwd=folder, stdin=subprocess.DEVNULL, stdout=subprocess.PIPE, stderr=subprocess.STDOUT, text=True, errors="replace")
-    # where another processor cannot run it, that it was built is told all the same
-    built = re.search(r"^rt: running out/", done.stdout, re.M) if here() != OURS else done.returncode == 0
-    if not built:
+    if done.returncode != 0 and (here() == OURS or not re.search(r"^rt: running out/", done.stdout, re.M)):
         die(done.stdout + f"rt run in crates/{name} failed")
-    return [*runner(OURS), os.path.join(folder, "out", name)]
+    return [*runner(machine), os.path.join(folder, "out", name)]
 
 
 # ---- Rust

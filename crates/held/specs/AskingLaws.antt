@@ -11,7 +11,7 @@ use Rattle.held.specs.declared.State.{State}
 use Rattle.held.specs.declared.Request.{Request}
 use Rattle.held.specs.declared.Request.TheVariants.{New, Row, Score, Paint}
 use Rattle.held.specs.declared.Asked.{Asked}
-use Rattle.held.specs.declared.Asked.TheVariants.{Of, Bad}
+use Rattle.held.specs.declared.Asked.TheVariants.{Of}
 use Rattle.held.specs.Asking.{request_of, Carried, asked_of, StartSays, AskSays}
 
 pub StartSays-unique : (r k : State) → StartSays r → StartSays k → r ≡ k

@@ -1,6 +1,7 @@
 // Answers of the published Rust's `finalize`, which the definition meets too (grade/specs/FinalizeFigures): sums and opacity by their bits.
 #![tactic(auto)]
 
+use std::io;
 use sums::ShapeSums;
 
 // 0.0 and 1.0 in each channel
@@ -21,6 +22,7 @@ fn three(b: [u64; 3]) -> [f64; 3] {
 }
 
 fn score_of(
+    rt: &impl Print,
     t: [u64; 3],
     c: [u64; 3],
     tt: [u64; 3],
@@ -28,7 +30,7 @@ fn score_of(
     tc: [u64; 3],
     count: u32,
     opacity: u32,
-) {
+) -> io::Result<()> {
     let s_t = three(t);
     let s_c = three(c);
     let s_t2 = three(tt);
@@ -43,16 +45,17 @@ fn score_of(
         count,
     };
     let r = grade::finalize(s, float::of_bits32(opacity));
-    show::unsigned(r.count as u64);
-    figures::number(r.change);
-    figures::number(r.red);
-    figures::number(r.green);
-    figures::number(r.blue);
-    show::text(b"\n");
+    show::unsigned(rt, r.count as u64)?;
+    figures::number(rt, r.change)?;
+    figures::number(rt, r.red)?;
+    figures::number(rt, r.green)?;
+    figures::number(rt, r.blue)?;
+    show::text(rt, "\n")
 }
 
-fn three_pixels(opacity: u32) {
+fn three_pixels(rt: &impl Print, opacity: u32) -> io::Result<()> {
     score_of(
+        rt,
         [
             0x3ff3_dc1f_c800_0000,
             0x3ff6_2670_3800_0000,
@@ -80,14 +83,15 @@ fn three_pixels(opacity: u32) {
         ],
         3,
         opacity,
-    );
+    )
 }
 
-fn pixels() {
+fn pixels(rt: &impl Print) -> io::Result<()> {
     // document 01's example
-    score_of(ONE, NOUGHT, ONE, NOUGHT, NOUGHT, 1, 0x3f00_0000);
+    score_of(rt, ONE, NOUGHT, ONE, NOUGHT, NOUGHT, 1, 0x3f00_0000)?;
     // opacity 0
     score_of(
+        rt,
         [
             0x3fd3_3333_4000_0000,
             0x3fe3_3333_4000_0000,
@@ -115,9 +119,10 @@ fn pixels() {
         ],
         1,
         0x0000_0000,
-    );
+    )?;
     // opacity 1
     score_of(
+        rt,
         [
             0x3ff0_0000_0000_0000,
             0x3fe9_9999_a800_0000,
@@ -145,9 +150,10 @@ fn pixels() {
         ],
         2,
         0x3f80_0000,
-    );
+    )?;
     // clamped at 0 and at 1
     score_of(
+        rt,
         [
             0x0000_0000_0000_0000,
             0x3ff0_0000_0000_0000,
@@ -175,18 +181,19 @@ fn pixels() {
         ],
         1,
         0x3e4c_cccd,
-    );
+    )?;
     // three pixels at 0.9
-    three_pixels(0x3f66_6666);
+    three_pixels(rt, 0x3f66_6666)?;
     // three pixels at 0.2
-    three_pixels(0x3e4c_cccd);
+    three_pixels(rt, 0x3e4c_cccd)?;
     // three pixels at 1/3
-    three_pixels(0x3eaa_aaab);
+    three_pixels(rt, 0x3eaa_aaab)
 }
 
-fn sums() {
+fn sums(rt: &impl Print) -> io::Result<()> {
     // no pixel
     score_of(
+        rt,
         [
             0x3ff0_0000_0000_0000,
             0x4000_0000_0000_0000,
@@ -210,9 +217,10 @@ fn sums() {
         ],
         0,
         0x3f00_0000,
-    );
+    )?;
     // a colour of -0.0
     score_of(
+        rt,
         [
             0x8000_0000_0000_0000,
             0x0000_0000_0000_0000,
@@ -228,9 +236,10 @@ fn sums() {
         NOUGHT,
         1,
         0x3f00_0000,
-    );
+    )?;
     // a large count
     score_of(
+        rt,
         [
             0x40dd_4c20_0000_0000,
             0x40c8_1cd6_c8b4_3958,
@@ -258,9 +267,10 @@ fn sums() {
         ],
         65536,
         0x3f33_3333,
-    );
+    )?;
     // sums of no pixels
     score_of(
+        rt,
         [
             0x4008_0000_0000_0000,
             0xc000_0000_0000_0000,
@@ -288,9 +298,10 @@ fn sums() {
         ],
         5,
         0x3ecc_cccd,
-    );
+    )?;
     // a change that overflows f32
     score_of(
+        rt,
         [
             0x6974_e718_d7d7_625a,
             0x3ff0_0000_0000_0000,
@@ -318,9 +329,10 @@ fn sums() {
         ],
         2,
         0x3e80_0000,
-    );
+    )?;
     // terms added in another order would give A4800000
     score_of(
+        rt,
         [
             0x4002_90f5_afa5_7d52,
             0x0000_0000_0000_0000,
@@ -348,9 +360,10 @@ fn sums() {
         ],
         3,
         0x3e99_999a,
-    );
+    )?;
     // the square of p taken apart would give 25400000
     score_of(
+        rt,
         [
             0x4003_490e_c396_6492,
             0x0000_0000_0000_0000,
@@ -378,10 +391,10 @@ fn sums() {
         ],
         7,
         0x3f33_3333,
-    );
+    )
 }
 
-fn main() {
-    pixels();
-    sums();
+fn main(rt: HostRuntime) -> io::Result<()> {
+    pixels(&rt)?;
+    sums(&rt)
 }

@@ -1,5 +1,5 @@
 -- Laws: parts of a list painted on a picture of the part before. Over any shapes, pictures and drawing.
-use Rattle.std.specs.Prelude.{◌≡◌, refl, List, [], ◌∷◌, ◌++◌, ℕ, zero, suc, ◌+◌, ◌≤◌, ◌<◌, length, take, drop, get_or}
+use Rattle.std.specs.Prelude.{◌≡◌, List, [], ◌∷◌, ◌++◌, ℕ, ◌+◌, ◌≤◌, ◌<◌, length, take, drop, get_or}
 use Rattle.std.proofs.Math.Path.{sym, ap}
 use Rattle.std.proofs.Common.{◌∙◌, add-one, arith, take-append-drop, take-suc, take-take, length-take-le}
 use Rattle.std.proofs.Math.Seq.{slice, slice_empty}

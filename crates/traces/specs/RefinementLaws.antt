@@ -1,7 +1,7 @@
 -- Laws: the list during a pass is a zipper; a trial from a picture of the shapes before j, and the totals that need no drawing. Over any shapes, pictures, drawing and total.
 use Rattle.std.specs.Prelude.{◌≡◌, Bool, ◌||◌, eqb, Float, length, take, drop, get_or}
 use Rattle.std.proofs.Math.Path.{refl, sym, ap, subst}
-use Rattle.std.proofs.Common.{◌∙◌, add-one, eq-eqb, ne_eqb, lt-ltb, le-ltb, length-drop, take-append-drop, length-take-le}
+use Rattle.std.proofs.Common.{◌∙◌, eq-eqb, ne_eqb, lt-ltb, le-ltb, length-drop, take-append-drop, length-take-le}
 use Rattle.std.proofs.Math.Bool.{true, false, cond}
 use mathlib.Core.List.{List, [], ◌∷◌, ◌++◌, append_assoc, append-nil}
 use Rattle.std.proofs.Math.Option.{Option, none, some}
