@@ -1,9 +1,8 @@
 -- Laws: a shape has one outline.
 use Rattle.std.specs.Prelude.{◌≡◌, refl, Bool, true, false, cond, ◌||◌, List, ℕ, ◌≤◌, eqb, ℤ}
 use Rattle.std.proofs.Common.{sym, ap, ◌∙◌, arith, eq-eqb, ne_eqb, eqb-true}
-use Rattle.std.proofs.Math.Option.{Option, none, some, some-injective}
+use Rattle.std.proofs.Math.Option.{some-injective}
 use Rattle.laws.specs.Fit.{no_both}
-use Rattle.cover.specs.declared.Kind.{Kind}
 use Rattle.crossing.specs.declared.Outlined.{Outlined}
 use Rattle.crossing.specs.declared.Outlined.TheVariants.{Known, Unknown}
 use Rattle.crossing.specs.Outlines.{sized, wanted, kind_in, OutlineSays}

@@ -1,5 +1,5 @@
 -- Rules: document 01's refusals of refinement. Lists are looked at below their count only, and an entry that is nothing never.
-use Rattle.std.specs.Prelude.{not, ◌&&◌, ◌||◌, List, [], ◌∷◌, ◌++◌, ℕ, ltb, Float, length}
+use Rattle.std.specs.Prelude.{not, ◌||◌, List, [], ◌∷◌, ◌++◌, ℕ, ltb, Float, length}
 use Rattle.float.specs.Within.{all_within}
 use Rattle.refusal.specs.Refusals.{Test, lowest, size_if, length_if, count_if, place_if, opacity_if, colour_if, pixel_if, bad_size}
 use Rattle.refusal.specs.Lengths.{bad_picture}

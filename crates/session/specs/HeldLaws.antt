@@ -1,14 +1,14 @@
 -- Laws: two steps that meet the promise are equal; what is held at the start.
-use Rattle.std.specs.Prelude.{◌≡◌, refl, Bool, false, List, [], ◌∷◌, ◌++◌, ℕ, ◌+◌, ◌-◌, ◌*◌, ◌≤◌, ◌<◌, length, take, drop, replicate, Float}
-use Rattle.std.proofs.Common.{sym, ap, ◌∙◌, subst, zero-mul, arith, length-append, take-append-drop, take_at}
+use Rattle.std.specs.Prelude.{◌≡◌, Bool, List, ℕ, ◌+◌, length, take, drop, Float}
+use Rattle.std.proofs.Common.{sym, ap, ◌∙◌, zero-mul, arith, take-append-drop}
 use Rattle.table.specs.Table.{Table}
 use Rattle.table.specs.TableLaws.{table-only}
 use Rattle.frame.specs.Frames as frames
 use Rattle.held.specs.declared.State.{State}
 use Rattle.held.specs.declared.Request.{Request}
-use Rattle.held.specs.Asking.{no_picture, request_of, StartSays}
+use Rattle.held.specs.Asking.{request_of, StartSays}
 use Rattle.session.specs.declared.Stepped.{Stepped}
-use Rattle.session.specs.Session.{Session, nothing, drawing}
+use Rattle.session.specs.Session.{nothing}
 use Rattle.session.specs.Held.{picture_size, table_size, Sheet, Standing, none, some, Holds, session_of, StepTakes, StepSays}
 use Rattle.session.specs.SessionLaws.{session_none, session_some}
 

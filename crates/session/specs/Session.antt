@@ -1,5 +1,5 @@
 -- Rules: document 01, "The program": the running state, what each request makes of it, and how it is answered.
-use Rattle.std.specs.Prelude.{◌≡◌, Bool, true, false, not, ◌||◌, cond, List, [], ◌∷◌, map, ℕ, ◌*◌, eqb, ltb, leb, pos, length, Float}
+use Rattle.std.specs.Prelude.{Bool, true, false, not, ◌||◌, cond, List, [], ◌∷◌, map, ℕ, ◌*◌, eqb, ltb, leb, pos, length, Float}
 use Rattle.std.specs.Float.{binary32, binary64}
 use Rattle.std.specs.Float.Ieee.{of_int, div, of_bits, to_bits}
 use Rattle.laws.specs.Before.{before}

@@ -1,5 +1,5 @@
 -- Laws: document 01's worked example, request by request, computed on the rule; and what refuses or closes a row.
-use Rattle.std.specs.Prelude.{◌≡◌, refl, true, List, [], ◌∷◌, pos}
+use Rattle.std.specs.Prelude.{◌≡◌, refl, true, [], ◌∷◌, pos}
 use Rattle.std.specs.Float.Ieee.{of_bits, to_bits, round, add, sub, mul, div, lt, le, eq, of_int}
 use Rattle.laws.specs.Before.{before}
 use Rattle.laws.specs.Ends.{ends_of}

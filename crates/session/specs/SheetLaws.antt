@@ -1,5 +1,5 @@
 -- Laws: a picture with its table: what a build, an update and a painted shape leave; a table's places are the sums of the rule; channels of bytes lie within 0..1.
-use Rattle.std.specs.Prelude.{◌≡◌, Bool, ◌&&◌, ◌||◌, cond, List, [], ◌∷◌, ◌++◌, map, T, eqb, ℤ, pos, length, take, drop, get_or, Float}
+use Rattle.std.specs.Prelude.{◌≡◌, Bool, ◌||◌, List, [], ◌∷◌, ◌++◌, map, T, ℤ, pos, length, take, drop, get_or, Float}
 use Rattle.std.proofs.Math.Path.{refl, sym, ap}
 use Rattle.std.proofs.Common.{◌∙◌, subst}
 use Rattle.std.proofs.Math.Bool.{true, false, not}
@@ -10,10 +10,10 @@ use borrow.Author.Tests.{le-ltb, eq-eqb}
 use Rattle.std.specs.Int.Signed.{le_z, lt_z}
 use Rattle.std.proofs.lemmas.List.{length-map}
 use Rattle.std.proofs.Math.ListN.{get_or-map}
-use Rattle.std.specs.Float.{nan, binary32}
+use Rattle.std.specs.Float.{nan}
 use Rattle.std.specs.Float.Ieee.{of_int, div, round, le, lt, eq}
 use Rattle.std.specs.Float.Ieee.Fits.{and_i}
-use Rattle.laws.specs.Bools.{is_true, true_is, true_or_false}
+use Rattle.laws.specs.Bools.{is_true, true_or_false}
 use Rattle.laws.specs.Fit.{no_both}
 use Rattle.laws.specs.Before.{before}
 use Rattle.laws.specs.Ends.{Ends, none, ends, ends_of}
@@ -35,12 +35,11 @@ use Rattle.cover.specs.Cover.{covered, reach, bad_places}
 use Rattle.cover.specs.CoverLaws.{in_reach}
 use Rattle.sums.specs.Sums.{no_sums, plus, minus}
 use Rattle.table.specs.Layout.{place_of}
-use Rattle.table.specs.Table.{Table, Updated, redone, bad_lengths, build_refusal, update_refusal, BuildSays, UpdateCanvasRowsSays}
+use Rattle.table.specs.Table.{Table, Updated, redone, bad_lengths, update_refusal, BuildSays, UpdateCanvasRowsSays}
 use Rattle.table.specs.TestLaws.{build_after}
 use Rattle.table.specs.TableLaws.{update_fresh}
 use Rattle.table.specs.ReadLaws.{table-place}
 use Rattle.grade.specs.declared.Scored.{Scored}
-use Rattle.grade.specs.declared.Score.{Score}
 use Rattle.score.specs.declared.Request.TheVariants.{Opacity}
 use Rattle.grade.specs.Finalize.{finalized}
 use Rattle.grade.specs.Answered.{answered}

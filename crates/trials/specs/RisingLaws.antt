@@ -1,8 +1,8 @@
 -- Laws: sums of squares keep their order when the same numbers are added to both, since rounding keeps it. So a total that is not lower at some place is not lower at the end.
 -- This is so for any bits: a sum that is no number stays none, and is not lower than anything.
-use Rattle.std.specs.Prelude.{◌≡◌, refl, Bool, true, false, not, cond, pos, T, ltb, Float}
-use Rattle.std.proofs.Common.{sym, ap, ◌∙◌, subst, true≢false, add-mul, mul-pos, mul_right_comm, mul_assoc, mul-le-mul_right, arith, nltb→le}
-use Prim.Native.Nat.{ℕ, zero, suc, ◌+◌, ◌*◌, ◌^◌, ◌≤◌, ◌<◌}
+use Rattle.std.specs.Prelude.{◌≡◌, refl, Bool, true, false, not, cond, T, ltb, Float}
+use Rattle.std.proofs.Common.{sym, subst, true≢false, add-mul, mul-pos, mul_right_comm, mul_assoc, mul-le-mul_right, arith, nltb→le}
+use Prim.Native.Nat.{ℕ, zero, suc, ◌+◌, ◌*◌, ◌^◌, ◌≤◌}
 use Rattle.std.proofs.Math.Nat.{mul-mul-mul_comm}
 use Rattle.std.specs.Float.{nan, inf, fin, Format}
 use Rattle.std.specs.Float.Ieee.{binary64, prec, emax, low, up, down, odd, units, round, sum, add, mul, lt, le, fits, is_nan}

@@ -1,7 +1,7 @@
 -- Laws: the sums of a picture, row by row; those of a trial's picture are the list's above the rows that the shape and the candidate reach, and a trial that is too high is not lower.
-use Rattle.std.specs.Prelude.{◌≡◌, refl, Bool, true, false, not, ◌⊎◌, List, [], ◌∷◌, ◌++◌, ℕ, zero, suc, ◌+◌, ◌-◌, ◌*◌, ◌≤◌, ◌<◌, Float, length, get_or, set}
+use Rattle.std.specs.Prelude.{◌≡◌, refl, false, not, List, [], ◌∷◌, ◌++◌, ℕ, suc, ◌+◌, ◌-◌, ◌*◌, ◌≤◌, ◌<◌, Float, length, get_or, set}
 use Rattle.std.proofs.Math.Path.{sym, ap, subst}
-use Rattle.std.proofs.Common.{◌∙◌, true≢false, inl, inr, zero-mul, suc-mul, add-one, arith, length-append, get_or-set_same, get_or-set_other, get_or-take, get_or-append-add, length-take-le}
+use Rattle.std.proofs.Common.{◌∙◌, true≢false, zero-mul, suc-mul, arith, length-append, get_or-set_same, get_or-set_other, get_or-take, get_or-append-add, length-take-le}
 use Rattle.std.proofs.Math.Logic.{⊎_elim}
 use Rattle.std.proofs.Math.Nat.{mul-le-mul_right}
 use Rattle.std.proofs.Math.Dec.{T}

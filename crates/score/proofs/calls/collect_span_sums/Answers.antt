@@ -1,0 +1,63 @@
+use mathlib.Core.Path.{◌∙◌}
+use native.Mathlib.Omega.{arith}
+use Rattle.score.specs.CallLaws.{usual_rows, span_sums-nothing, span_sums-told}
+use Rattle.score.specs.AskLaws.{SpansAsked, spans_asked}
+use Rattle.gather.specs.StampSumLaws.{stamp_is_spans}
+use Rattle.score.proofs.calls.collect_span_sums.Goals as goal
+use Rattle.score.proofs.calls.collect_span_sums.Goals.{Else-bottom-top}
+
+-- `score::calls::collect_span_sums` meets its contract: nothing where no row is reached, the sums of the rows that are, or what the tests in order give.
+
+pub reach_rows-rows-requires : goal.reach_rows-rows-requires
+reach_rows-rows-requires c =
+    let a = c.args in
+    let k = usual_rows _ _ _ a.w a.h (c.usual_table.ensures c.if-usual_table.true).0 in
+    record { sizes = k.0; places = k.1 }
+
+pub returns-then-bottom-top : goal.returns-then-bottom-top
+returns-then-bottom-top c =
+    let a = c.args in
+    span_sums-nothing _ a.w a.h a.table.now (c.usual_table.ensures c.if-usual_table.true)
+    c.reach_rows-rows.result c.reach_rows-rows.ensures c.if-bottom-top.true c.no_sums.result c.no_sums.ensures
+
+-- what is known where some row is reached
+module _ (c : Else-bottom-top) where
+  asked : let a = c.args in SpansAsked a.kind a.w a.h a.table.now c.reach_rows-rows.result
+  asked =
+      let a = c.args in
+      let r = c.reach_rows-rows in
+      spans_asked _ a.w a.h a.table.now (c.usual_table.ensures c.if-usual_table.true) r.result r.ensures (omega (arith, c.if-bottom-top.false))
+
+pub first_column-left-requires : goal.first_column-left-requires
+first_column-left-requires c = let k = (asked (goal.at.first_column-left-requires c).Else-bottom-top).column in record { columns = k.0; places = k.1 }
+
+pub overflow_sub-bottom : goal.overflow_sub-bottom
+overflow_sub-bottom c = omega (arith, c.if-bottom-top.false)
+
+pub stamp_of-bits-requires : goal.stamp_of-bits-requires
+stamp_of-bits-requires c = let k = (asked (goal.at.stamp_of-bits-requires c).Else-bottom-top).stamp _ c.if-bottom-top-2.true in record { sizes = k.0; places = k.1.0; window = k.1.1 }
+
+pub add_stamp-few-requires : goal.add_stamp-few-requires
+add_stamp-few-requires c =
+    let k = (asked (goal.at.add_stamp-few-requires c).Else-bottom-top).added _ _ c.if-bottom-top-2.true (c.stamp_of-bits.ensures (λ q. omega (arith, c.if-bits.true, q))) in
+    record { window = k.0; rows = k.1 }
+
+pub returns-then-bits : goal.returns-then-bits
+returns-then-bits d =
+    let a = d.args in
+    span_sums-told _ a.w a.h a.table.now (d.usual_table.ensures d.if-usual_table.true)
+    d.add_stamp-few.result (d.add_stamp-few.ensures ∙ stamp_is_spans _ _ _ a.w a.h _ (d.stamp_of-bits.ensures (λ q. omega (arith, d.if-bits.true, q))) a.table.now)
+
+pub reached_sums-gathered-requires : goal.reached_sums-gathered-requires
+reached_sums-gathered-requires c =
+    let k = (asked (goal.at.reached_sums-gathered-requires c).Else-bottom-top).reached in
+    record { sizes = k.0; places = k.1.0; lent = k.1.1.0; rows = k.1.1.1 }
+
+pub returns-then-usual_table : goal.returns-then-usual_table
+returns-then-usual_table d =
+    let a = d.args in
+    span_sums-told _ a.w a.h a.table.now (d.usual_table.ensures d.if-usual_table.true)
+    d.reached_sums-gathered.result d.reached_sums-gathered.ensures
+
+pub returns : goal.returns
+returns c = c.apart.ensures ∙ c.tested_span_sums.ensures

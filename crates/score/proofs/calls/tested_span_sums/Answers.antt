@@ -1,0 +1,27 @@
+use mathlib.Core.Path.{sym, ◌∙◌}
+use lib.ListN.{length}
+use Rattle.refusal.specs.RefusalLaws.{sized}
+use Rattle.gather.specs.Gathered.{span_sums}
+use Rattle.score.specs.Scoring.{span_sums_refusal}
+use Rattle.score.specs.CallLaws.{span_sums-passed, table-length, collected_refused, collected_done}
+use Rattle.score.proofs.calls.tested_span_sums.Goals as goal
+
+-- `score::calls::tested_span_sums` meets its contract: the refusal and no sums, or the sums.
+
+pub returns-then-no-ne0 : goal.returns-then-no-ne0
+returns-then-no-ne0 c =
+    let a = c.args in
+    collected_refused (span_sums_refusal a.kind a.w a.h a.table.now) c.span_sums_refusal-no.result c.no_sums.result (span_sums a.kind a.w a.h a.table.now)
+    c.span_sums_refusal-no.ensures c.if-no-ne0.true c.no_sums.ensures
+
+pub span_sums-sums-requires : goal.span_sums-sums-requires
+span_sums-sums-requires c =
+    let a = c.args in
+    let k = span_sums-passed a.kind a.w a.h a.table.now (sym c.span_sums_refusal-no.ensures ∙ c.if-no-ne0.false) in
+    record { sizes = sized a.w a.h k.0; places = k.2; lent = table-length a.w a.h (length a.table.now) k.1 }
+
+pub returns : goal.returns
+returns c =
+    let a = c.args in
+    collected_done (span_sums_refusal a.kind a.w a.h a.table.now) (span_sums a.kind a.w a.h a.table.now) c.span_sums-sums.result
+    (sym c.span_sums_refusal-no.ensures ∙ c.if-no-ne0.false) c.span_sums-sums.ensures
