@@ -1,6 +1,6 @@
 -- Laws: demand 1. That every call ends, inside what is lent to it, the prover shows of each function. Here: bad input gets the number of document 01's
 -- table, and a refused call changes nothing. Each theorem is about the promise of one public function.
-use Rattle.std.specs.Prelude.{◌≡◌, Bool, true, not, ◌||◌, List, [], ◌∷◌, ◌++◌, ℕ, zero, suc, ◌<◌, ◌≤◌, T, ltb, ℤ, pos, length, Float}
+use Rattle.std.specs.Prelude.{◌≡◌, Bool, true, not, ◌||◌, List, [], ◌∷◌, ◌++◌, ℕ, zero, suc, ◌<◌, ◌≤◌, T, ltb, ℤ, length, Float}
 use Rattle.std.proofs.Math.Path.{refl, ap}
 use Rattle.std.proofs.Common.{sym, ◌∙◌, arith}
 use Rattle.std.proofs.Math.Bool.{false, cond}
@@ -11,7 +11,7 @@ use Rattle.laws.specs.Ends.{Ends, none}
 use Rattle.refusal.specs.Refusals.{Test, lowest, size_if, length_if, count_if, place_if, opacity_if, colour_if, pixel_if, bad_size}
 use Rattle.refusal.specs.RefusalLaws.{above, Held, lowest_holds, lowest_least}
 use Rattle.refusal.specs.Lengths.{bad_picture, bad_table}
-use Rattle.float.specs.Within.{nought, within, all_within}
+use Rattle.float.specs.Within.{within, all_within}
 use Rattle.cover.specs.declared.Kind.{Kind}
 use Rattle.cover.specs.declared.Band.{Band}
 use Rattle.cover.specs.declared.Counted.{Counted}
@@ -22,23 +22,22 @@ use Rattle.cover.specs.Cover.{bad_places}
 use Rattle.cover.specs.Answers.{count_answer, ends_answer, band_answer, no_band, CountCoveredSays, RowEndsSays, RedrawBandSays}
 use Rattle.sums.specs.declared.ShapeSums.{ShapeSums}
 use Rattle.sums.specs.Sums.{no_sums}
-use Rattle.table.specs.Table.{bad_lengths, build_refusal, update_refusal, BuildSays, UpdateCanvasRowsSays}
+use Rattle.table.specs.Table.{build_refusal, update_refusal, BuildSays, UpdateCanvasRowsSays}
 use Rattle.score.specs.declared.Request.{Request}
 use Rattle.score.specs.declared.Request.TheVariants.{Levels}
 use Rattle.grade.specs.declared.Score.{Score}
 use Rattle.grade.specs.declared.Scored.{Scored}
 use Rattle.grade.specs.declared.Scored.TheVariants.{Done, Refused}
-use Rattle.score.specs.declared.Collected.{Collected}
 use Rattle.grade.specs.Levels.{levels, levels_refusal, AlphaLevelsSays}
 use Rattle.grade.specs.Swept.{swept}
 use Rattle.grade.specs.Answered.{answered}
 use Rattle.grade.specs.AlphaSweep.{bad_levels, sweep_refusal, AlphaSweepSays}
 use Rattle.gather.specs.Gathered.{span_sums, point_sums}
-use Rattle.score.specs.Scoring.{bad_count, bad_opacity, score_at, span_refusal, point_refusal, span_sums_refusal, point_sums_refusal, collected, CollectSpanSumsSays, CollectPointSumsSays, SpanScoreSays, PointScoreSays}
+use Rattle.score.specs.Scoring.{bad_count, bad_opacity, score_at, span_refusal, point_refusal, collected, SpanScoreSays, PointScoreSays}
 use Rattle.picture.specs.declared.Colour.{Colour}
 use Rattle.picture.specs.declared.Mean.{Mean}
 use Rattle.picture.specs.declared.Total.{Total}
-use Rattle.picture.specs.Pixels.{bad_colour, filled, fill_refusal, mean_refusal, total_refusal, no_colour, mean_answer, total_answer, FilledCanvasSays, MeanRgbSays, SseTotalSays}
+use Rattle.picture.specs.Pixels.{bad_colour, filled, fill_refusal, mean_refusal, total_refusal, mean_answer, total_answer, FilledCanvasSays, MeanRgbSays, SseTotalSays}
 use Rattle.paint.specs.Paint.{paint_refusal, PaintSays}
 use Rattle.shapes.specs.declared.Shape.{Shape}
 use Rattle.shapes.specs.declared.Shapes.{Shapes}

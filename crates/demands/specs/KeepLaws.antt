@@ -1,5 +1,5 @@
 -- Laws: a taken call has the sizes of what is lent; a paint call keeps the table; rows outside the reach stay; two calls and a build.
-use Rattle.std.specs.Prelude.{◌≡◌, Bool, true, not, ◌||◌, cond, List, ◌⊎◌, ℕ, ◌+◌, ◌*◌, ◌≤◌, ◌<◌, T, eqb, pos, length, Float}
+use Rattle.std.specs.Prelude.{◌≡◌, Bool, true, not, ◌||◌, cond, List, ℕ, ◌+◌, ◌*◌, ◌≤◌, ◌<◌, T, eqb, pos, length, Float}
 use Rattle.std.proofs.Math.Path.{refl}
 use Rattle.std.proofs.Common.{sym, ap, ap₂, ◌∙◌, subst, ⊎_elim, mul_comm, arith}
 use Rattle.std.proofs.Math.Bool.{false, or-true}

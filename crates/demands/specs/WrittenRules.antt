@@ -1,5 +1,5 @@
 -- Laws: demand 2, more sentences of document 01, in the order of its text, each as what the promises say.
-use Rattle.std.specs.Prelude.{◌≡◌, Bool, true, false, cond, ◌&&◌, ◌||◌, ◌↔◌, ℕ, ◌+◌, ◌*◌, ◌^◌, ◌<◌, ◌≤◌, eqb, ℤ, pos, ◌≤ℤ◌, length, get_or, Float}
+use Rattle.std.specs.Prelude.{◌≡◌, Bool, true, false, cond, ◌||◌, ◌↔◌, ℕ, ◌+◌, ◌*◌, ◌^◌, ◌<◌, ◌≤◌, eqb, ℤ, pos, ◌≤ℤ◌, length, get_or, Float}
 use Rattle.std.proofs.Math.Path.{refl, ap}
 use Rattle.std.proofs.Common.{sym, ◌∙◌}
 use mathlib.Core.List.{List, [], ◌∷◌, ◌++◌}
@@ -10,7 +10,6 @@ use Rattle.std.specs.Float.Ieee.{nan, lt, up, down, round, of_int, of_bits, to_b
 use Rattle.std.specs.Float.{fin, binary32, binary64}
 use Rattle.laws.specs.Answer.{Answer}
 use Rattle.laws.specs.RowSums.{OfTarget, OfCanvas, target_sum, canvas_sum, picture_of}
-use Rattle.laws.specs.Runs.{runs_of}
 use Rattle.laws.specs.Pictures.{channel_of}
 use Rattle.cover.specs.declared.Kind.{Kind}
 use Rattle.cover.specs.declared.Counted.{Counted}
@@ -21,7 +20,7 @@ use Rattle.cover.specs.CoverLaws.{left_at, right_at, in_run, in_reach}
 use Rattle.cover.specs.Answers.{count_answer, CountCoveredSays, band_answer, no_band, RedrawBandSays}
 use Rattle.sums.specs.declared.ShapeSums.{ShapeSums}
 use Rattle.table.specs.Layout.{Series, of_target, of_canvas, entry}
-use Rattle.table.specs.Table.{f64_sums, picture, redone, Updated, BuildSays, UpdateCanvasRowsSays}
+use Rattle.table.specs.Table.{f64_sums, picture, redone, BuildSays, UpdateCanvasRowsSays}
 use Rattle.table.specs.TableLaws.{untouched}
 use Rattle.score.specs.declared.Request.TheVariants.{Opacity}
 use Rattle.grade.specs.Sweep.{best_of}

@@ -60,10 +60,6 @@ module _ (change : ℕ → Float) where
   abbrev Passed : ℕ → Float → Type 0
   Passed k d = (j : ℕ) → j < k → lt (change j) d ≡ false
 
-  passed_of : (k : ℕ) (f : Found) → BestAt change k f → Passed k (change_at change f)
-  passed_of k nowhere b = b
-  passed_of k (at i) b = b.least
-
   -- level k is lower than the best so far: it is the best of k + 1
   taken : (k : ℕ) (d : Float) → lt d (inf false) ≡ true ⊎ (d ≡ inf false) → lt (change k) d ≡ true → Passed k d → Best change (suc k) k
   taken k d fin h p = record {
@@ -79,31 +75,35 @@ module _ (change : ℕ → Float) where
       by j l (yes g) = let e : j ≡ k = omega arith in subst (λ (i : ℕ). lt (change i) (change k) ≡ false) (sym e) (itself (change k))
       by j l (no g) = not_below (change j) (change k) d h (p j (omega arith))
 
-  finite_of : (k : ℕ) (f : Found) → BestAt change k f → (lt (change_at change f) (inf false) ≡ true) ⊎ (change_at change f ≡ inf false)
-  finite_of k nowhere b = inr refl
-  finite_of k (at i) b = inl b.finite
-
-  kept : (k : ℕ) (f : Found) → lt (change k) (change_at change f) ≡ false → BestAt change k f → BestAt change (suc k) f
-  kept k nowhere h b = λ j l. by j l (dec_le k j)
-    where
-      by : (j : ℕ) → j < suc k → Dec (k ≤ j) → lt (change j) (inf false) ≡ false
-      by j l (yes g) = let e : j ≡ k = omega arith in subst (λ (i : ℕ). lt (change i) (inf false) ≡ false) (sym e) h
-      by j l (no g) = b j (omega arith)
-  kept k (at i) h b = record { below = omega (arith, b.below); finite = b.finite; least = λ j l. by j l (dec_le k j); first = b.first }
-    where
-      by : (j : ℕ) → j < suc k → Dec (k ≤ j) → lt (change j) (change i) ≡ false
-      by j l (yes g) = let e : j ≡ k = omega arith in subst (λ (m : ℕ). lt (change m) (change i) ≡ false) (sym e) h
-      by j l (no g) = b.least j (omega arith)
-
-  more : (k : ℕ) (f : Found) (b : Bool) → lt (change k) (change_at change f) ≡ b → BestAt change k f → BestAt change (suc k) (better b k f)
-  more k f true h b = taken k (change_at change f) (finite_of k f b) h (passed_of k f b)
-  more k f false h b = kept k f h b
-
   -- what the fold gives is what is meant
   pub best_means : (n : ℕ) → BestAt change n (best_of change n)
   unfolding best_of
   best_means zero = λ j l. absurd (omega arith)
   best_means (suc k) = more k (best_of change k) (lt (change k) (change_at change (best_of change k))) refl (best_means k)
+    where
+      passed_of : (k : ℕ) (f : Found) → BestAt change k f → Passed k (change_at change f)
+      passed_of k nowhere b = b
+      passed_of k (at i) b = b.least
+
+      finite_of : (k : ℕ) (f : Found) → BestAt change k f → (lt (change_at change f) (inf false) ≡ true) ⊎ (change_at change f ≡ inf false)
+      finite_of k nowhere b = inr refl
+      finite_of k (at i) b = inl b.finite
+
+      kept : (k : ℕ) (f : Found) → lt (change k) (change_at change f) ≡ false → BestAt change k f → BestAt change (suc k) f
+      kept k nowhere h b = λ j l. by j l (dec_le k j)
+        where
+          by : (j : ℕ) → j < suc k → Dec (k ≤ j) → lt (change j) (inf false) ≡ false
+          by j l (yes g) = let e : j ≡ k = omega arith in subst (λ (i : ℕ). lt (change i) (inf false) ≡ false) (sym e) h
+          by j l (no g) = b j (omega arith)
+      kept k (at i) h b = record { below = omega (arith, b.below); finite = b.finite; least = λ j l. by j l (dec_le k j); first = b.first }
+        where
+          by : (j : ℕ) → j < suc k → Dec (k ≤ j) → lt (change j) (change i) ≡ false
+          by j l (yes g) = let e : j ≡ k = omega arith in subst (λ (m : ℕ). lt (change m) (change i) ≡ false) (sym e) h
+          by j l (no g) = b.least j (omega arith)
+
+      more : (k : ℕ) (f : Found) (b : Bool) → lt (change k) (change_at change f) ≡ b → BestAt change k f → BestAt change (suc k) (better b k f)
+      more k f true h b = taken k (change_at change f) (finite_of k f b) h (passed_of k f b)
+      more k f false h b = kept k f h b
 
 -- and nothing else is: two best levels are the same
 pub best_unique : (change : ℕ → Float) (n i j : ℕ) → Best change n i → Best change n j → i ≡ j
@@ -132,24 +132,21 @@ module _ (change : ℕ → Float) (k : ℕ) where
   unfolding best_of
   best_of-kept h = rw add-one (ap (λ (b : Bool). better b k (best_of change k)) h)
 
--- ---- changes that are all the same, and below infinity: the first level is the best
-module _ (change : ℕ → Float) (d : Float) (same : (i : ℕ) → change i ≡ d) (finite : lt d (inf false) ≡ true) where
-  stays : (k : ℕ) (f : Found) → f ≡ at 0 → better (lt (change k) (change_at change f)) k f ≡ at 0
-  stays k f e = simp (e, same, itself)
-
-  first_of_equals : (k : ℕ) → best_of change (suc k) ≡ at 0
-  unfolding best_of
-  first_of_equals zero = simp (same, finite)
-  first_of_equals (suc k) = stays (suc k) (best_of change (suc k)) (first_of_equals k)
-
--- so it is where nothing is covered: each change is +0
+-- ---- changes that are all the same, and below infinity: the first level is the best. So it is where nothing is covered: each change is +0
 pub swept-nothing : (s : ShapeSums) (levels : List Float) (n : ℕ) → s.count ≡ 0 → 1 ≤ n → no_score (level levels 0) 0 ≡ swept s levels n
-unfolding swept no_score lt
+unfolding swept no_score lt best_of
 swept-nothing s levels zero z h = absurd (omega arith)
 swept-nothing s levels (suc k) z h = finalized-none s (level levels 0) z ∙ sym (ap (swept_at s levels) (first_of_equals (change_of s levels) nought nothing refl k))
   where
     nothing : (i : ℕ) → change_of s levels i ≡ nought
     nothing i = sym (ap (λ (r : Score). r.change) (finalized-none s (level levels i) z))
+
+    stays : (change : ℕ → Float) (d : Float) → ((i : ℕ) → change i ≡ d) → (k : ℕ) (f : Found) → f ≡ at 0 → better (lt (change k) (change_at change f)) k f ≡ at 0
+    stays change d same k f e = simp (e, same, itself)
+
+    first_of_equals : (change : ℕ → Float) (d : Float) → ((i : ℕ) → change i ≡ d) → lt d (inf false) ≡ true → (k : ℕ) → best_of change (suc k) ≡ at 0
+    first_of_equals change d same finite zero = simp (same, finite)
+    first_of_equals change d same finite (suc k) = stays change d same (suc k) (best_of change (suc k)) (first_of_equals change d same finite k)
 
 -- ---- the code's answer: the best level's number, or n where there is none
 abbrev pub number_of : ℕ → Found → ℕ

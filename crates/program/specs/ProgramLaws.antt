@@ -1,10 +1,10 @@
 -- Laws: an input has one list of answers, as long as its lines; a line that is read, decoded and stepped is answered by the rule.
-use Rattle.std.specs.Prelude.{◌≡◌, refl, List, [], ◌∷◌, ℕ, suc, ◌≤◌, length, Float}
+use Rattle.std.specs.Prelude.{◌≡◌, refl, List, ℕ, suc, ◌≤◌, length, Float}
 use Rattle.std.proofs.Common.{sym, ap, ◌∙◌, subst, arith}
 use Rattle.lines.specs.declared.Line.{Line}
 use Rattle.lines.specs.Hex.{malformed}
-use Rattle.lines.specs.Lines.{split, told, heard}
-use Rattle.frame.specs.Frames.{Request, new, row, score, paint, LineAsks, decoded, read_as, ReadFrameSays, ReadsTold, ReadLineSays}
+use Rattle.lines.specs.Lines.{told, heard}
+use Rattle.frame.specs.Frames.{Request, new, row, score, paint, decoded, ReadFrameSays, ReadsTold, ReadLineSays}
 use Rattle.frame.specs.ReadLaws.{line_asks_unique, told_reads}
 use Rattle.frame.specs.declared.Read.{Read}
 use Rattle.frame.specs.declared.Answer.{Answer}
