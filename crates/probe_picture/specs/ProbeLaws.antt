@@ -1,5 +1,5 @@
 -- Laws: two answers of a probe are equal.
-use Rattle.std.specs.Prelude.{◌≡◌, refl, List, ℕ, ℤ, Float}
+use Rattle.std.specs.Prelude.{◌≡◌, List, ℕ, ℤ, Float}
 use Rattle.std.proofs.Common.{sym, ◌∙◌}
 use Rattle.std.proofs.Math.Option.{Option, none, some}
 use Rattle.cover.specs.declared.Kind.{Kind}
