@@ -1,10 +1,10 @@
 -- Laws: two answers of the refinement export are equal, and so is what they leave; the list keeps its length; what the call behind it promises is what the export promises.
-use Rattle.std.specs.Prelude.{◌≡◌, Bool, not, ◌||◌, List, [], ◌∷◌, ◌++◌, eqb, ℤ, Float, length, get_or}
+use Rattle.std.specs.Prelude.{◌≡◌, Bool, not, ◌||◌, List, ◌∷◌, ◌++◌, eqb, ℤ, Float, length}
 use Rattle.std.proofs.Math.Path.{refl, sym, ap}
 use Rattle.std.proofs.Common.{subst, ◌∙◌, arith, eq-eqb, ne_eqb, eqb-true, lt-ltb}
 use Rattle.std.proofs.Math.Logic.{⊎_elim}
 use Rattle.std.proofs.Math.Bool.{true, false, cond}
-use Rattle.std.proofs.Math.Option.{Option, none}
+use Rattle.std.proofs.Math.Option.{Option}
 use Prim.Native.Nat.{ℕ, zero, suc, ◌*◌, ◌<◌}
 use Rattle.std.proofs.lemmas.Bool.{not-false}
 use Rattle.std.proofs.Math.Dec.{ltb}
@@ -31,7 +31,7 @@ use Rattle.refine.specs.Tests.{refusal_of, size_tests, range_tests}
 use Rattle.refine.specs.Answers.{Told, told, done_with, refused_with, RefineShapesSays}
 use Rattle.capi.specs.declared.SillbadgerAnswer.{SillbadgerAnswer}
 use Rattle.crossing.specs.Crossed.{sized_or, bad_list, Fits, shapes_of, offers_of, sizes_of, places_of, paints_of, WriteListSays}
-use Rattle.capi.specs.Answers.{answered, refused_by, shapeless, with_counts}
+use Rattle.capi.specs.Answers.{refused_by, shapeless, with_counts}
 use Rattle.capi.specs.ScoreLaws.{no_size, no_length}
 use Rattle.capi.specs.Refining.{refine_refusal, scene_of, outcome, refined_told, too_many, Refines, number_of, SillbadgerRefineSays}
 

@@ -1,10 +1,9 @@
 -- Laws: two answers of a score's export are equal; an answer that is an enum is told; at one opacity levels do not matter.
 use Rattle.std.specs.Prelude.{◌≡◌, refl, Bool, true, not, cond, ◌||◌, List, [], ◌∷◌, ℕ, eqb, ℤ, length, Float}
-use Rattle.std.proofs.Common.{sym, ◌∙◌, arith, eq-eqb}
+use Rattle.std.proofs.Common.{sym, ◌∙◌, eq-eqb}
 use Rattle.std.proofs.Math.Path.{ap}
 use Rattle.std.proofs.Math.Bool.{false}
 use Rattle.std.proofs.Math.Option.{Option, none, some}
-use Rattle.laws.specs.Fit.{no_both}
 use Rattle.refusal.specs.Refusals.{lowest, size_if, length_if, count_if, place_if, opacity_if, bad_size}
 use Rattle.refusal.specs.RefusalLaws.{lowest_skip, lowest-take}
 use Rattle.refusal.specs.Lengths.{bad_picture, bad_table}

@@ -11,7 +11,7 @@ use Rattle.laws.specs.EveryLaws.{every-each}
 use Rattle.float.specs.Within.{number, all_numbers}
 use Rattle.laws.specs.Ends.{Ends, none, ends, ends_of, left_of, right_of}
 use Rattle.laws.specs.EndsLaws.{Ended, ended}
-use Rattle.laws.specs.PixelSums.{add_span, point_row}
+use Rattle.laws.specs.PixelSums.{add_span, point_row, span_sum}
 use Rattle.laws.specs.RowFold.{rows_from}
 use Rattle.laws.specs.RowFoldLaws.{rows_none, rows_more, rows_same, rows-window, span_rows, point_rows, run-pixels}
 use Rattle.cover.specs.declared.Kind.{Kind}
@@ -114,9 +114,10 @@ module _ (kind : Kind) (w h : ℕ) (room : h ≤ 256) where
   within_picture : top < bottom → bottom ≤ h
   within_picture l = let n : bottom - 1 < h = (through kind w h).inside (bottom - 1) (omega arith) (omega arith) in omega arith
 
-  pub reach-sums : (table : List Float) → runs_added w table runs top (bottom - top) ≡ span_sums kind w h table
-  unfolding runs_added span_sums
-  reach-sums table =
+  -- span by span; whatever `span_sums` says
+  spanned : (table : List Float) → runs_added w table runs top (bottom - top) ≡ span_sum no_sums plus minus (place_of w table) (covered kind) w h
+  unfolding runs_added
+  spanned table =
       rows_same (λ y. run_added w table y (run_left runs y) (run_right runs y)) add top (bottom - top) no_sums
       (λ y a b t. let l : y < h = (through kind w h).inside y (omega (arith, (through kind w h).ordered)) a in
       ap₂ (λ (m n : ℕ). run_added w table y m n t) (left-ends kind w h room y l) (right-ends kind w h room y l)
@@ -127,6 +128,10 @@ module _ (kind : Kind) (w h : ℕ) (room : h ≤ 256) where
     where
       add : ℕ → ShapeSums → ShapeSums
       add y = add_span no_sums plus minus (place_of w table y) (ends_of (λ x. covered kind x y) w)
+
+  pub reach-sums : (table : List Float) → runs_added w table runs top (bottom - top) ≡ span_sums kind w h table
+  unfolding span_sums
+  reach-sums table = spanned table
 
   pub reach_points : (target canvas : List Float) → points_added w target canvas runs top (bottom - top) ≡ point_sums kind w h target canvas
   unfolding points_added pixels_added point_sums
@@ -158,7 +163,8 @@ module _ (kind : Kind) (w h : ℕ) (room : h ≤ 256) where
     no_rows = omega (arith, empty)
 
     pub none_spans : (table : List Float) → no_sums ≡ span_sums kind w h table
-    none_spans table = sym (runs_none w table runs top) ∙ ap (runs_added w table runs top) (sym no_rows) ∙ reach-sums table
+    unfolding span_sums
+    none_spans table = sym (runs_none w table runs top) ∙ ap (runs_added w table runs top) (sym no_rows) ∙ spanned table
 
     pub none_points : (target canvas : List Float) → no_sums ≡ point_sums kind w h target canvas
     none_points target canvas =
@@ -187,7 +193,8 @@ module _ (kind : Kind) (w h : ℕ) (z : Sized w h) (top bottom : ℕ) (g : Reach
     reached_fit = rw (g.0, g.1, f) (runs_fit kind w h z.h_high)
 
     pub reached_spans : (table : List Float) → runs_added w table runs top (bottom - top) ≡ span_sums kind w h table
-    reached_spans table = rw (g.0, g.1, f) (reach-sums kind w h z.h_high table)
+    unfolding span_sums
+    reached_spans table = rw (g.0, g.1, f) (spanned kind w h z.h_high table)
 
     pub reached_points : (target canvas : List Float) → points_added w target canvas runs top (bottom - top) ≡ point_sums kind w h target canvas
     reached_points target canvas = rw (g.0, g.1, f) (reach_points kind w h z.h_high target canvas)

@@ -91,8 +91,9 @@ module _ (d : After-clamp_i64-past) where
 -- ---- the sign
 signed : (c : After-sign_of-sign) → let s = start c.before in Signed (xs s) (ys s) (to_z w32 (of_z w32 c.sign_of-sign.result))
 signed c =
-    let area-is = read w64 c.side-turn.result c.side-turn.type_inv ∙ told c.before.before.before.before.before.before in record {
-      some = some_area _ (λ z. bits_nonzero w64 c.if-turn-eq0.false (told c.before.before.before.before.before.before ∙ z));
+    let area-is = read w64 c.side-turn.result c.side-turn.type_inv ∙ told c.before.before.before.before.before.before in
+    let apart : of_z w64 c.side-turn.result ≡ 0 → ⊥ = λ e. omega arith in record {
+      some = some_area _ (λ z. bits_nonzero w64 apart (told c.before.before.before.before.before.before ∙ z));
       is = read w32 c.sign_of-sign.result c.sign_of-sign.type_inv ∙ c.sign_of-sign.ensures ∙ ap sign_of area-is;
     }
 

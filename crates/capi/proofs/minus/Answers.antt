@@ -1,4 +1,3 @@
--- 0 less a byte fits, and is the byte's negative.
 use mathlib.Core.Path.{◌≡◌, ap, ◌∙◌}
 use Prim.Native.Nat.{ℕ, ◌<◌}
 use native.Mathlib.Omega.{arith}
@@ -6,11 +5,11 @@ use lib.IntN.{ℤ, pos, neg_ℤ, ◌-ℤ◌}
 use mir.Facts.{to_z_pos, to_z-of_z}
 use mir.Syntax.{w64}
 use mir.Val.{SFits, to_z}
-use borrow.Author.Rules.{rules}
 use Rattle.laws.specs.Parts.{zord, of-, P-neg, N-neg}
 use Rattle.laws.specs.Fit.{of_mag}
-use Rattle.capi.proofs.minus.Statement.{statement}
-use Rattle.capi.proofs.minus.Tie as tie
+use Rattle.capi.proofs.minus.Goals as goal
+
+-- 0 less a byte fits, and is the byte's negative.
 
 module _ (k : ℕ) (h : k < 256) where
   less : pos 0 -ℤ to_z w64 k ≡ neg_ℤ (pos k)
@@ -19,14 +18,8 @@ module _ (k : ℕ) (h : k < 256) where
   fits : SFits w64 (pos 0 -ℤ to_z w64 k)
   fits = rw less (omega (arith, of_mag (neg_ℤ (pos k)), P-neg (pos k), N-neg (pos k)))
 
-cast-result : tie.Need-overflow-cast-result
-cast-result c = search rules
+pub overflow_sub-result : goal.overflow_sub-result
+overflow_sub-result c = fits c.args.k (omega arith)
 
-sub-result : tie.Need-overflow-sub-result
-sub-result c = fits c.args.k (omega arith)
-
-returns : tie.Need-returns
+pub returns : goal.returns
 returns c = let h : c.args.k < 256 = omega arith in to_z-of_z (fits c.args.k h) ∙ less c.args.k h
-
-pub minus-spec : {M : Type 1} → statement M
-minus-spec = tie.close (tie.spec cast-result sub-result returns)

@@ -1,0 +1,10 @@
+use mir.Syntax.{w64}
+use mir.Facts.{to_z-of_z}
+use Rattle.laws.specs.Fit.{read}
+use Rattle.capi.proofs.sillbadger_count_circle.Goals as goal
+
+-- What `count_of` promises of this kind, once each number that is read back from its bits is the number itself.
+
+pub returns : goal.returns
+returns c =
+    simp (read w64 c.count_of.result c.count_of.type_inv) (simp (to_z-of_z, c.ranges.cx, c.ranges.cy, c.ranges.r) at c.count_of.ensures)
