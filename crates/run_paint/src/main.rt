@@ -3,6 +3,7 @@
 
 use cover::Kind;
 use demands::Call;
+use std::io;
 
 // What stands in a table before a call, to count what it writes.
 const MARK: f64 = 7.0;
@@ -20,36 +21,45 @@ fn changed(canvas: &[f32]) -> usize {
     n
 }
 
-fn labelled(label: &[u8], n: usize) {
-    show::text(label);
-    show::unsigned(n as u64);
+fn labelled(rt: &impl Print, label: &str, n: usize) -> io::Result<()> {
+    show::text(rt, label)?;
+    show::unsigned(rt, n as u64)
 }
 
-fn verdict(table: &[f64], fresh: &[f64]) {
+fn verdict(rt: &impl Print, table: &[f64], fresh: &[f64]) -> io::Result<()> {
     if figures::differing(table, fresh) == 0 {
-        show::text(b", the table as built afresh\n");
+        show::text(rt, ", the table as built afresh\n")?;
     } else {
-        show::text(b", THE TABLE NOT AS BUILT AFRESH\n");
+        show::text(rt, ", THE TABLE NOT AS BUILT AFRESH\n")?;
     }
+    Ok(())
 }
 
 // ---- shapes on a picture of 4 columns and 3 rows
 
-fn row_shown(y: usize, row: &[f64]) {
+fn row_shown(rt: &impl Print, y: usize, row: &[f64]) -> io::Result<()> {
     let marks = [MARK; 75];
-    labelled(b" ", y);
-    labelled(b":", figures::differing(row, &marks));
+    labelled(rt, " ", y)?;
+    labelled(rt, ":", figures::differing(row, &marks))
 }
 
-fn rows_shown(marked: &[f64; 225]) {
+fn rows_shown(rt: &impl Print, marked: &[f64; 225]) -> io::Result<()> {
     let m = &marked[..];
-    row_shown(0, &m[0..75]);
-    row_shown(1, &m[75..150]);
-    row_shown(2, &m[150..225]);
+    row_shown(rt, 0, &m[0..75])?;
+    row_shown(rt, 1, &m[75..150])?;
+    row_shown(rt, 2, &m[150..225])
 }
 
 // The numbers written of a marked table, row by row.
-fn rows_redone(target: &[f32; 36], kind: Kind, opacity: f32, red: f32, green: f32, blue: f32) {
+fn rows_redone(
+    rt: &impl Print,
+    target: &[f32; 36],
+    kind: Kind,
+    opacity: f32,
+    red: f32,
+    green: f32,
+    blue: f32,
+) -> io::Result<()> {
     let mut canvas = [0.0f32; 36];
     figures::slope(&mut canvas, 0.9, -0.02);
     let mut marked = [MARK; 225];
@@ -65,8 +75,8 @@ fn rows_redone(target: &[f32; 36], kind: Kind, opacity: f32, red: f32, green: f3
         &mut canvas,
         &mut marked,
     );
-    show::text(b", written");
-    rows_shown(&marked);
+    show::text(rt, ", written")?;
+    rows_shown(rt, &marked)
 }
 
 fn slopes(target: &mut [f32], canvas: &mut [f32]) {
@@ -74,19 +84,27 @@ fn slopes(target: &mut [f32], canvas: &mut [f32]) {
     figures::slope(canvas, 0.9, -0.02);
 }
 
-fn named(name: &[u8], no: u8) {
-    show::text(name);
-    labelled(b": ", no as usize);
+fn named(rt: &impl Print, name: &str, no: u8) -> io::Result<()> {
+    show::text(rt, name)?;
+    labelled(rt, ": ", no as usize)
 }
 
-fn beside_fresh(target: &[f32], canvas: &[f32], places: &[f64]) {
+fn beside_fresh(rt: &impl Print, target: &[f32], canvas: &[f32], places: &[f64]) -> io::Result<()> {
     let mut fresh = [0.0; 225];
     table::build(target, canvas, 4, 3, &mut fresh);
-    verdict(places, &fresh);
-    figures::numbers(canvas, 12);
+    verdict(rt, places, &fresh)?;
+    figures::numbers(rt, canvas, 12)
 }
 
-fn stroke(name: &[u8], kind: Kind, opacity: f32, red: f32, green: f32, blue: f32) {
+fn stroke(
+    rt: &impl Print,
+    name: &str,
+    kind: Kind,
+    opacity: f32,
+    red: f32,
+    green: f32,
+    blue: f32,
+) -> io::Result<()> {
     let mut target = [0.0f32; 36];
     let mut canvas = [0.0f32; 36];
     slopes(&mut target, &mut canvas);
@@ -104,81 +122,86 @@ fn stroke(name: &[u8], kind: Kind, opacity: f32, red: f32, green: f32, blue: f32
         &mut canvas,
         &mut places,
     );
-    named(name, no);
-    rows_redone(&target, kind, opacity, red, green, blue);
-    beside_fresh(&target, &canvas, &places);
+    named(rt, name, no)?;
+    rows_redone(rt, &target, kind, opacity, red, green, blue)?;
+    beside_fresh(rt, &target, &canvas, &places)
 }
 
-fn half_red(name: &[u8], kind: Kind) {
-    stroke(name, kind, 0.5, 1.0, 0.25, 0.0);
+fn half_red(rt: &impl Print, name: &str, kind: Kind) -> io::Result<()> {
+    stroke(rt, name, kind, 0.5, 1.0, 0.25, 0.0)
 }
 
-fn strokes_inside() {
-    half_red(b"circle (1,1) r 1", Kind::Circle(1, 1, 1));
+fn strokes_inside(rt: &impl Print) -> io::Result<()> {
+    half_red(rt, "circle (1,1) r 1", Kind::Circle(1, 1, 1))?;
     stroke(
-        b"circle (0,0) r 1",
+        rt,
+        "circle (0,0) r 1",
         Kind::Circle(0, 0, 1),
         0.3,
         0.1,
         0.7,
         1.0,
-    );
+    )?;
     stroke(
-        b"triangle (0,0),(3,0),(0,2)",
+        rt,
+        "triangle (0,0),(3,0),(0,2)",
         Kind::Triangle(0, 0, 3, 0, 0, 2),
         0.2,
         0.9,
         0.1,
         0.4,
-    );
+    )?;
     stroke(
-        b"quad (1,1),(3,1),(3,2),(1,2)",
+        rt,
+        "quad (1,1),(3,1),(3,2),(1,2)",
         Kind::Quad(1, 1, 3, 1, 3, 2, 1, 2),
         1.0,
         0.3,
         0.6,
         0.9,
-    );
+    )
 }
 
-fn strokes_of_nothing() {
-    stroke(b"opacity -0", Kind::Circle(1, 1, 2), -0.0, 0.3, 0.6, 0.9);
-    half_red(b"radius 0", Kind::Circle(1, 1, 0));
-    half_red(b"radius -3", Kind::Circle(1, 1, -3));
-    half_red(b"no area", Kind::Triangle(0, 0, 1, 1, 2, 2));
+fn strokes_of_nothing(rt: &impl Print) -> io::Result<()> {
+    stroke(rt, "opacity -0", Kind::Circle(1, 1, 2), -0.0, 0.3, 0.6, 0.9)?;
+    half_red(rt, "radius 0", Kind::Circle(1, 1, 0))?;
+    half_red(rt, "radius -3", Kind::Circle(1, 1, -3))?;
+    half_red(rt, "no area", Kind::Triangle(0, 0, 1, 1, 2, 2))
 }
 
-fn strokes_past_an_edge() {
-    half_red(b"above", Kind::Circle(1, -5, 2));
-    half_red(b"just above", Kind::Triangle(0, -1, 3, -1, 1, -4));
-    half_red(b"one row", Kind::Circle(1, -1, 1));
-    half_red(b"below", Kind::Circle(1, 9, 2));
-    half_red(b"beside", Kind::Circle(20, 1, 3));
+fn strokes_past_an_edge(rt: &impl Print) -> io::Result<()> {
+    half_red(rt, "above", Kind::Circle(1, -5, 2))?;
+    half_red(rt, "just above", Kind::Triangle(0, -1, 3, -1, 1, -4))?;
+    half_red(rt, "one row", Kind::Circle(1, -1, 1))?;
+    half_red(rt, "below", Kind::Circle(1, 9, 2))?;
+    half_red(rt, "beside", Kind::Circle(20, 1, 3))?;
     stroke(
-        b"farthest",
+        rt,
+        "farthest",
         Kind::Quad(-8191, -8191, 8191, -8191, 8191, 8191, -8191, 8191),
         0.7,
         0.0,
         1.0,
         0.5,
-    );
+    )
 }
 
 // ---- refusals: circle (cx, 1) r 1, a colour's red, and what is lent
 
-fn counts(no: u8, canvas: usize, places: usize) {
-    labelled(b": ", no as usize);
-    labelled(b", changed ", canvas);
-    labelled(b" and ", places);
-    show::text(b"\n");
+fn counts(rt: &impl Print, no: u8, canvas: usize, places: usize) -> io::Result<()> {
+    labelled(rt, ": ", no as usize)?;
+    labelled(rt, ", changed ", canvas)?;
+    labelled(rt, " and ", places)?;
+    show::text(rt, "\n")
 }
 
-fn answer(no: u8, canvas: &[f32], places: &[f64]) {
+fn answer(rt: &impl Print, no: u8, canvas: &[f32], places: &[f64]) -> io::Result<()> {
     let marks = [MARK; 240];
-    counts(no, changed(canvas), figures::differing(places, &marks));
+    counts(rt, no, changed(canvas), figures::differing(places, &marks))
 }
 
 fn lent(
+    rt: &impl Print,
     cx: i32,
     opacity: f32,
     red: f32,
@@ -187,7 +210,7 @@ fn lent(
     target: &[f32],
     canvas: &mut [f32],
     places: &mut [f64],
-) {
+) -> io::Result<()> {
     let no = paint::paint(
         Kind::Circle(cx, 1, 1),
         opacity,
@@ -200,28 +223,36 @@ fn lent(
         canvas,
         places,
     );
-    answer(no, canvas, places);
+    answer(rt, no, canvas, places)
 }
 
-fn asked_stroke(cx: i32, opacity: f32, red: f32) {
-    show::text(b"x ");
-    show::signed32(cx);
-    show::text(b", opacity");
-    figures::number(opacity);
-    show::text(b", red");
-    figures::number(red);
+fn asked_stroke(rt: &impl Print, cx: i32, opacity: f32, red: f32) -> io::Result<()> {
+    show::text(rt, "x ")?;
+    show::signed32(rt, cx)?;
+    show::text(rt, ", opacity")?;
+    figures::number(rt, opacity)?;
+    show::text(rt, ", red")?;
+    figures::number(rt, red)
 }
 
-fn asked_sizes(w: usize, h: usize, nt: usize, nc: usize, n: usize) {
-    labelled(b", ", w);
-    labelled(b"x", h);
-    labelled(b", lengths ", nt);
-    labelled(b" ", nc);
-    labelled(b" ", n);
+fn asked_sizes(
+    rt: &impl Print,
+    w: usize,
+    h: usize,
+    nt: usize,
+    nc: usize,
+    n: usize,
+) -> io::Result<()> {
+    labelled(rt, ", ", w)?;
+    labelled(rt, "x", h)?;
+    labelled(rt, ", lengths ", nt)?;
+    labelled(rt, " ", nc)?;
+    labelled(rt, " ", n)
 }
 
 // So many numbers of each.
 fn lend(
+    rt: &impl Print,
     cx: i32,
     opacity: f32,
     red: f32,
@@ -233,9 +264,10 @@ fn lend(
     target: &[f32],
     canvas: &mut [f32],
     places: &mut [f64],
-) {
+) -> io::Result<()> {
     if nt <= target.len() && nc <= canvas.len() && n <= places.len() {
         lent(
+            rt,
             cx,
             opacity,
             red,
@@ -244,17 +276,29 @@ fn lend(
             &target[0..nt],
             &mut canvas[0..nc],
             &mut places[0..n],
-        );
+        )?;
     }
+    Ok(())
 }
 
-fn ask(cx: i32, opacity: f32, red: f32, w: usize, h: usize, nt: usize, nc: usize, n: usize) {
-    asked_stroke(cx, opacity, red);
-    asked_sizes(w, h, nt, nc, n);
+fn ask(
+    rt: &impl Print,
+    cx: i32,
+    opacity: f32,
+    red: f32,
+    w: usize,
+    h: usize,
+    nt: usize,
+    nc: usize,
+    n: usize,
+) -> io::Result<()> {
+    asked_stroke(rt, cx, opacity, red)?;
+    asked_sizes(rt, w, h, nt, nc, n)?;
     let target = [0.5f32; 40];
     let mut canvas = [PLAIN; 40];
     let mut places = [MARK; 240];
     lend(
+        rt,
         cx,
         opacity,
         red,
@@ -266,48 +310,51 @@ fn ask(cx: i32, opacity: f32, red: f32, w: usize, h: usize, nt: usize, nc: usize
         &target,
         &mut canvas,
         &mut places,
-    );
+    )
 }
 
-fn one_wrong() {
+fn one_wrong(rt: &impl Print) -> io::Result<()> {
     // none
-    ask(1, 0.5, 1.0, 4, 3, 36, 36, 225);
-    ask(8191, 0.5, 1.0, 4, 3, 36, 36, 225);
-    ask(-8191, 0.5, 1.0, 4, 3, 36, 36, 225);
-    ask(1, -0.0, -0.0, 4, 3, 36, 36, 225);
-    ask(1, 1.0, 1.0, 3, 4, 36, 36, 240);
+    ask(rt, 1, 0.5, 1.0, 4, 3, 36, 36, 225)?;
+    ask(rt, 8191, 0.5, 1.0, 4, 3, 36, 36, 225)?;
+    ask(rt, -8191, 0.5, 1.0, 4, 3, 36, 36, 225)?;
+    ask(rt, 1, -0.0, -0.0, 4, 3, 36, 36, 225)?;
+    ask(rt, 1, 1.0, 1.0, 3, 4, 36, 36, 240)?;
     // a size
-    ask(1, 0.5, 1.0, 0, 3, 36, 36, 225);
-    ask(1, 0.5, 1.0, 4, 0, 36, 36, 225);
-    ask(1, 0.5, 1.0, 257, 3, 36, 36, 225);
-    ask(1, 0.5, 1.0, 4, 257, 36, 36, 225);
+    ask(rt, 1, 0.5, 1.0, 0, 3, 36, 36, 225)?;
+    ask(rt, 1, 0.5, 1.0, 4, 0, 36, 36, 225)?;
+    ask(rt, 1, 0.5, 1.0, 257, 3, 36, 36, 225)?;
+    ask(rt, 1, 0.5, 1.0, 4, 257, 36, 36, 225)?;
     // a length
-    ask(1, 0.5, 1.0, 4, 3, 35, 36, 225);
-    ask(1, 0.5, 1.0, 4, 3, 36, 35, 225);
-    ask(1, 0.5, 1.0, 4, 3, 36, 37, 225);
-    ask(1, 0.5, 1.0, 4, 3, 36, 36, 224);
-    ask(1, 0.5, 1.0, 3, 4, 36, 36, 225);
-    // a place
-    ask(8192, 0.5, 1.0, 4, 3, 36, 36, 225);
-    ask(-8192, 0.5, 1.0, 4, 3, 36, 36, 225);
-    // an opacity: just above 1, just below 0, a NaN
-    ask(1, float::of_bits32(0x3f80_0001), 1.0, 4, 3, 36, 36, 225);
-    ask(1, float::of_bits32(0x8000_0001), 1.0, 4, 3, 36, 36, 225);
-    ask(1, float::of_bits32(0x7fc0_0000), 1.0, 4, 3, 36, 36, 225);
-    // a colour
-    ask(1, 0.5, float::of_bits32(0x3f80_0001), 4, 3, 36, 36, 225);
-    ask(1, 0.5, float::of_bits32(0x7fc0_0000), 4, 3, 36, 36, 225);
+    ask(rt, 1, 0.5, 1.0, 4, 3, 35, 36, 225)?;
+    ask(rt, 1, 0.5, 1.0, 4, 3, 36, 35, 225)?;
+    ask(rt, 1, 0.5, 1.0, 4, 3, 36, 37, 225)?;
+    ask(rt, 1, 0.5, 1.0, 4, 3, 36, 36, 224)?;
+    ask(rt, 1, 0.5, 1.0, 3, 4, 36, 36, 225)
 }
 
-fn several_wrong() {
-    ask(8192, 2.0, 2.0, 0, 3, 35, 36, 225);
-    ask(8192, 2.0, 2.0, 4, 3, 35, 36, 225);
-    ask(8192, 2.0, 2.0, 4, 3, 36, 36, 225);
-    ask(1, 2.0, 2.0, 4, 3, 36, 36, 225);
-    ask(8192, 0.5, 2.0, 4, 3, 36, 36, 225);
-    ask(1, 0.5, 2.0, 4, 3, 36, 36, 0);
-    ask(8192, 0.5, 1.0, 4, 257, 36, 36, 225);
-    ask(1, 2.0, 1.0, 4, 3, 36, 0, 225);
+fn one_number_wrong(rt: &impl Print) -> io::Result<()> {
+    // a place
+    ask(rt, 8192, 0.5, 1.0, 4, 3, 36, 36, 225)?;
+    ask(rt, -8192, 0.5, 1.0, 4, 3, 36, 36, 225)?;
+    // an opacity: just above 1, just below 0, a NaN
+    ask(rt, 1, float::of_bits32(0x3f80_0001), 1.0, 4, 3, 36, 36, 225)?;
+    ask(rt, 1, float::of_bits32(0x8000_0001), 1.0, 4, 3, 36, 36, 225)?;
+    ask(rt, 1, float::of_bits32(0x7fc0_0000), 1.0, 4, 3, 36, 36, 225)?;
+    // a colour
+    ask(rt, 1, 0.5, float::of_bits32(0x3f80_0001), 4, 3, 36, 36, 225)?;
+    ask(rt, 1, 0.5, float::of_bits32(0x7fc0_0000), 4, 3, 36, 36, 225)
+}
+
+fn several_wrong(rt: &impl Print) -> io::Result<()> {
+    ask(rt, 8192, 2.0, 2.0, 0, 3, 35, 36, 225)?;
+    ask(rt, 8192, 2.0, 2.0, 4, 3, 35, 36, 225)?;
+    ask(rt, 8192, 2.0, 2.0, 4, 3, 36, 36, 225)?;
+    ask(rt, 1, 2.0, 2.0, 4, 3, 36, 36, 225)?;
+    ask(rt, 8192, 0.5, 2.0, 4, 3, 36, 36, 225)?;
+    ask(rt, 1, 0.5, 2.0, 4, 3, 36, 36, 0)?;
+    ask(rt, 8192, 0.5, 1.0, 4, 257, 36, 36, 225)?;
+    ask(rt, 1, 2.0, 1.0, 4, 3, 36, 0, 225)
 }
 
 // ---- two calls and a build afresh
@@ -324,13 +371,13 @@ fn circle(cx: i32, cy: i32, r: i32, opacity: f32, w: usize, h: usize) -> Call {
     }
 }
 
-fn both_answers(first: u8, second: u8, afresh: u8) {
-    labelled(b"two calls: ", first as usize);
-    labelled(b" ", second as usize);
-    labelled(b" ", afresh as usize);
+fn both_answers(rt: &impl Print, first: u8, second: u8, afresh: u8) -> io::Result<()> {
+    labelled(rt, "two calls: ", first as usize)?;
+    labelled(rt, " ", second as usize)?;
+    labelled(rt, " ", afresh as usize)
 }
 
-fn both(first: Call, second: Call) {
+fn both(rt: &impl Print, first: Call, second: Call) -> io::Result<()> {
     let mut target = [0.0f32; 36];
     let mut canvas = [0.0f32; 36];
     slopes(&mut target, &mut canvas);
@@ -348,23 +395,29 @@ fn both(first: Call, second: Call) {
             &mut places,
             &mut fresh,
         );
-        both_answers(n.first, n.second, n.afresh);
-        verdict(&places, &fresh);
+        both_answers(rt, n.first, n.second, n.afresh)?;
+        verdict(rt, &places, &fresh)?;
     }
+    Ok(())
 }
 
-fn pairs() {
-    both(circle(1, 0, 1, 0.5, 4, 3), circle(2, 2, 1, 0.25, 4, 3));
-    both(circle(1, 0, 1, 0.5, 4, 3), circle(2, 2, 1, 2.0, 4, 3));
-    both(circle(1, 0, 1, 0.5, 3, 4), circle(2, 2, 1, 0.25, 4, 3));
-    both(circle(1, -9, 1, 0.5, 4, 3), circle(8192, 2, 1, 0.25, 4, 3));
+fn pairs(rt: &impl Print) -> io::Result<()> {
+    both(rt, circle(1, 0, 1, 0.5, 4, 3), circle(2, 2, 1, 0.25, 4, 3))?;
+    both(rt, circle(1, 0, 1, 0.5, 4, 3), circle(2, 2, 1, 2.0, 4, 3))?;
+    both(rt, circle(1, 0, 1, 0.5, 3, 4), circle(2, 2, 1, 0.25, 4, 3))?;
+    both(
+        rt,
+        circle(1, -9, 1, 0.5, 4, 3),
+        circle(8192, 2, 1, 0.25, 4, 3),
+    )
 }
 
-fn main() {
-    strokes_inside();
-    strokes_of_nothing();
-    strokes_past_an_edge();
-    one_wrong();
-    several_wrong();
-    pairs();
+fn main(rt: HostRuntime) -> io::Result<()> {
+    strokes_inside(&rt)?;
+    strokes_of_nothing(&rt)?;
+    strokes_past_an_edge(&rt)?;
+    one_wrong(&rt)?;
+    one_number_wrong(&rt)?;
+    several_wrong(&rt)?;
+    pairs(&rt)
 }

@@ -7,6 +7,7 @@ ghost use Rattle.std.specs.Prelude.{◌≡◌, ◌*◌, ◌<◌, ◌≤◌, leng
 use cover::Kind;
 use refine::Refined;
 use shapes::{Candidate, Candidates, Shape, Shapes, Slot};
+use std::io;
 
 // ---- draws
 
@@ -110,9 +111,9 @@ fn draw_target(seed: u64, target: &mut [f32])
 
 // ---- what is written
 
-fn number(n: usize) {
-    show::text(b" ");
-    show::unsigned(n as u64);
+fn number(rt: &impl Print, n: usize) -> io::Result<()> {
+    show::text(rt, " ")?;
+    show::unsigned(rt, n as u64)
 }
 
 fn checksum(p: &[f32]) -> u64 {
@@ -126,43 +127,50 @@ fn checksum(p: &[f32]) -> u64 {
 }
 
 // The shapes by their opacities.
-fn write_list(list: Shapes) {
-    show::text(b" list");
+fn write_list(rt: &impl Print, list: Shapes) -> io::Result<()> {
+    show::text(rt, " list")?;
     let n = whole::min_usize(list.count, 64);
     let mut i = 0;
     while i < n {
         let s = list.items[i];
-        show::text(b" ");
-        show::hex(float::bits32(s.opacity) as u64, 8);
+        show::text(rt, " ")?;
+        show::hex(rt, float::bits32(s.opacity) as u64, 8)?;
         i += 1;
     }
+    Ok(())
 }
 
-fn labelled(label: &[u8], n: usize) {
-    show::text(label);
-    number(n);
+fn labelled(rt: &impl Print, label: &str, n: usize) -> io::Result<()> {
+    show::text(rt, label)?;
+    number(rt, n)
 }
 
-fn write_counts(refusal: u8, passes: usize, trials: usize, acceptances: usize) {
-    labelled(b": refusal", refusal as usize);
-    labelled(b" passes", passes);
-    labelled(b" trials", trials);
-    labelled(b" accepted", acceptances);
+fn write_counts(
+    rt: &impl Print,
+    refusal: u8,
+    passes: usize,
+    trials: usize,
+    acceptances: usize,
+) -> io::Result<()> {
+    labelled(rt, ": refusal", refusal as usize)?;
+    labelled(rt, " passes", passes)?;
+    labelled(rt, " trials", trials)?;
+    labelled(rt, " accepted", acceptances)
 }
 
-fn write_pictures(first: &[f32], second: &[f32]) {
-    show::text(b" pictures ");
-    show::hex(checksum(first), 8);
-    show::text(b" ");
-    show::hex(checksum(second), 8);
-    show::text(b"\n");
+fn write_pictures(rt: &impl Print, first: &[f32], second: &[f32]) -> io::Result<()> {
+    show::text(rt, " pictures ")?;
+    show::hex(rt, checksum(first), 8)?;
+    show::text(rt, " ")?;
+    show::hex(rt, checksum(second), 8)?;
+    show::text(rt, "\n")
 }
 
-fn write_answer(r: Refined, first: &[f32], second: &[f32]) {
-    write_counts(r.refusal, r.passes, r.trials, r.acceptances);
+fn write_answer(rt: &impl Print, r: Refined, first: &[f32], second: &[f32]) -> io::Result<()> {
+    write_counts(rt, r.refusal, r.passes, r.trials, r.acceptances)?;
     let list = r.shapes;
-    write_list(list);
-    write_pictures(first, second);
+    write_list(rt, list)?;
+    write_pictures(rt, first, second)
 }
 
 // ---- cases
@@ -208,17 +216,26 @@ fn refined(
     )
 }
 
-fn heading(seed: u64, w: usize, h: usize, n: usize, m: usize, passes: usize) {
-    show::text(b"seed ");
-    show::unsigned(seed);
-    labelled(b" size", w);
-    number(h);
-    labelled(b" shapes", n);
-    labelled(b" offers", m);
-    labelled(b" passes", passes);
+fn heading(
+    rt: &impl Print,
+    seed: u64,
+    w: usize,
+    h: usize,
+    n: usize,
+    m: usize,
+    passes: usize,
+) -> io::Result<()> {
+    show::text(rt, "seed ")?;
+    show::unsigned(rt, seed)?;
+    labelled(rt, " size", w)?;
+    number(rt, h)?;
+    labelled(rt, " shapes", n)?;
+    labelled(rt, " offers", m)?;
+    labelled(rt, " passes", passes)
 }
 
 fn case(
+    rt: &impl Print,
     seed: u64,
     w: usize,
     h: usize,
@@ -228,16 +245,24 @@ fn case(
     target: &mut [f32],
     first: &mut [f32],
     second: &mut [f32],
-)
+) -> io::Result<()>
     requires { (seed < 1000) × (length target.old ≤ 576) }
 {
-    heading(seed, w, h, n, m, passes);
+    heading(rt, seed, w, h, n, m, passes)?;
     draw_target(seed, target);
     let r = refined(seed, w, h, n, m, passes, target, first, second);
-    write_answer(r, first, second);
+    write_answer(rt, r, first, second)
 }
 
-fn run(seed: u64, w: usize, h: usize, n: usize, m: usize, passes: usize)
+fn run(
+    rt: &impl Print,
+    seed: u64,
+    w: usize,
+    h: usize,
+    n: usize,
+    m: usize,
+    passes: usize,
+) -> io::Result<()>
     requires { (seed < 1000) × (h * w * 3 ≤ 576) }
 {
     let mut target = [0.0f32; 576];
@@ -245,6 +270,7 @@ fn run(seed: u64, w: usize, h: usize, n: usize, m: usize, passes: usize)
     let mut second = [0.0f32; 576];
     let end = h * w * 3;
     case(
+        rt,
         seed,
         w,
         h,
@@ -254,7 +280,7 @@ fn run(seed: u64, w: usize, h: usize, n: usize, m: usize, passes: usize)
         &mut target[0..end],
         &mut first[0..end],
         &mut second[0..end],
-    );
+    )
 }
 
 fn circle(cx: i32, cy: i32, red: f32, green: f32, blue: f32) -> Shape {
@@ -288,10 +314,10 @@ fn one_offer(red: f32, green: f32, blue: f32) -> Candidates {
 
 // Two pixels. Nothing is drawn on them, and the candidate makes the second right, so that the old total is 1 + (r*r + g*g + b*b) / 2^52 and
 // the new one is 1. With 1540, 1180, 860 the two are 1e-9 apart, rounded: new + 1e-9 is old.
-fn edge(red: f32, green: f32, blue: f32) {
+fn edge(rt: &impl Print, red: f32, green: f32, blue: f32) -> io::Result<()> {
     let step = 67108864.0;
-    show::text(b"edge");
-    number(float::bits32(red) as usize);
+    show::text(rt, "edge")?;
+    number(rt, float::bits32(red) as usize)?;
     let list = two_off_the_picture();
     let candidates = one_offer(red / step, green / step, blue / step);
     let target = [1.0f32, 0.0, 0.0, red / step, green / step, blue / step];
@@ -310,40 +336,40 @@ fn edge(red: f32, green: f32, blue: f32) {
         &mut first,
         &mut second,
     );
-    write_answer(r, &first, &second);
+    write_answer(rt, r, &first, &second)
 }
 
-fn runs() {
+fn runs(rt: &impl Print) -> io::Result<()> {
     // no pass, or fewer than two shapes
-    run(1, 5, 4, 0, 4, 3);
-    run(2, 5, 4, 1, 4, 3);
-    run(3, 5, 4, 3, 4, 0);
+    run(rt, 1, 5, 4, 0, 4, 3)?;
+    run(rt, 2, 5, 4, 1, 4, 3)?;
+    run(rt, 3, 5, 4, 3, 4, 0)?;
     // no candidates: one pass
-    run(4, 5, 4, 3, 0, 3);
+    run(rt, 4, 5, 4, 3, 0, 3)?;
     // accepted, rejected, mixed; candidates that run out in the middle of a pass
-    run(7, 4, 3, 2, 2, 1);
-    run(6, 7, 5, 3, 1, 2);
-    run(7, 9, 6, 4, 6, 3);
-    run(8, 6, 8, 5, 12, 4);
-    run(313, 8, 6, 12, 192, 16);
+    run(rt, 7, 4, 3, 2, 2, 1)?;
+    run(rt, 6, 7, 5, 3, 1, 2)?;
+    run(rt, 7, 9, 6, 4, 6, 3)?;
+    run(rt, 8, 6, 8, 5, 12, 4)?;
+    run(rt, 313, 8, 6, 12, 192, 16)?;
     // at the bounds, and past them
-    run(10, 3, 2, 64, 2, 1);
-    run(11, 3, 2, 2, 1024, 16);
-    run(12, 3, 2, 65, 2, 1);
-    run(13, 3, 2, 2, 1025, 16);
-    run(14, 3, 2, 2, 4, 17);
-    run(15, 0, 4, 65, 0, 0);
+    run(rt, 10, 3, 2, 64, 2, 1)?;
+    run(rt, 11, 3, 2, 2, 1024, 16)?;
+    run(rt, 12, 3, 2, 65, 2, 1)?;
+    run(rt, 13, 3, 2, 2, 1025, 16)?;
+    run(rt, 14, 3, 2, 2, 4, 17)?;
+    run(rt, 15, 0, 4, 65, 0, 0)
 }
 
 // At the margin, a little below and above it.
-fn edges() {
-    edge(1540.0, 1180.0, 860.0);
-    edge(1541.0, 1180.0, 860.0);
-    edge(1539.0, 1180.0, 860.0);
-    edge(0.0, 0.0, 0.0);
+fn edges(rt: &impl Print) -> io::Result<()> {
+    edge(rt, 1540.0, 1180.0, 860.0)?;
+    edge(rt, 1541.0, 1180.0, 860.0)?;
+    edge(rt, 1539.0, 1180.0, 860.0)?;
+    edge(rt, 0.0, 0.0, 0.0)
 }
 
-fn main() {
-    runs();
-    edges();
+fn main(rt: HostRuntime) -> io::Result<()> {
+    runs(&rt)?;
+    edges(&rt)
 }

@@ -1,0 +1,10 @@
+use Rattle.std.proofs.Common.{sym}
+use Rattle.demands.specs.KeepLaws.{answered_kept}
+use Rattle.run_paint.proofs.both.Goals as goal
+
+-- `two_calls` asks for the table that the build left.
+
+pub two_calls-n-requires : goal.two_calls-n-requires
+two_calls-n-requires g c =
+    let k = answered_kept 4 3 _ _ _ _ _ c.if-no-eq0.true c.build-no.ensures in
+    record { built = k; room = sym k.built.size }
