@@ -46,17 +46,17 @@ pub struct ProbedScore {
     pub blue: f32,
 }
 
-// A score, or the number of the refusal and zeros. In a score's own order: what was written as a whole is read as a whole.
+// A score, or the number of the refusal and zeros.
 #[repr(C)]
 #[derive(Clone, Copy)]
 pub struct ProbedAnswer {
     pub refused: u8,
     pub opacity: f32,
+    pub count: u32,
+    pub change: f32,
     pub red: f32,
     pub green: f32,
     pub blue: f32,
-    pub count: u32,
-    pub change: f32,
 }
 
 #[repr(C)]

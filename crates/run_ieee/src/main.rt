@@ -3,8 +3,10 @@
 // A result that is a NaN is compared as "is a NaN": both sides are put into the one form that float::bits32 and bits64 give.
 #![tactic(auto)]
 
+use std::fs::File;
+use std::io;
+use std::io::Read;
 use std::rt::Files;
-use std::{fs, io};
 
 // A line as far as it is read: the last three words before the one that is being read, and the counts so far.
 #[derive(Clone, Copy)]
@@ -117,7 +119,16 @@ fn read(r: Reading, op: u8, byte: u8) -> Reading {
     }
 }
 
-fn compare(text: &[u8], op: u8) -> Reading {
+fn compare(before: Reading, text: &[u8], op: u8) -> Reading {
+    let mut r = before;
+    for byte in text {
+        r = read(r, op, *byte);
+    }
+    r
+}
+
+fn run(rt: &(impl Files + Print), name: &str, op: u8) -> io::Result<()> {
+    let mut file = File::open(rt, name)?;
     let mut r = Reading {
         a: 0,
         b: 0,
@@ -126,15 +137,14 @@ fn compare(text: &[u8], op: u8) -> Reading {
         lines: 0,
         differences: 0,
     };
-    for byte in text {
-        r = read(r, op, *byte);
+    let mut buf = [0u8; 65536];
+    for _ in 0..u64::MAX {
+        let n = file.read(&mut buf)?;
+        if n == 0 {
+            break;
+        }
+        r = compare(r, &buf[..n], op);
     }
-    r
-}
-
-fn run(rt: &(impl Files + Alloc + Print), name: &str, op: u8) -> io::Result<()> {
-    let text = fs::read(rt, name)?;
-    let r = compare(&text, op);
     println!(rt; "{name}: {} lines, {} differences", r.lines, r.differences)
 }
 

@@ -11,6 +11,8 @@
 // and coordinates. A number behind x is a float's bits. A line that does not read so is a bad line.
 #![tactic(auto)]
 
+ghost use Rattle.std.specs.Prelude.{◌≤◌, length, IfOk};
+
 mod answers;
 mod calls;
 mod shapes;
@@ -246,8 +248,23 @@ fn each(rt: &impl Print, text: &[u8]) -> io::Result<()> {
     Ok(())
 }
 
+// What standard input has, as far as there is room.
+fn read_full(input: &mut impl io::Read, text: &mut [u8]) -> io::Result<usize>
+    ensures { IfOk result (λ n. n ≤ length text.new) }
+{
+    let mut n = 0;
+    for _ in 0..u64::MAX {
+        let got = input.read(&mut text[n..])?;
+        if got == 0 {
+            break;
+        }
+        n += got;
+    }
+    Ok(n)
+}
+
 fn main(rt: HostRuntime) -> io::Result<()> {
-    let mut text = Vec::new(rt.alloc());
-    rt.stdin().read_to_end(&mut text)?;
-    each(&rt, &text)
+    let mut text = [0u8; 65536];
+    let n = read_full(&mut rt.reader(), &mut text)?;
+    each(&rt, &text[..n])
 }
