@@ -1,8 +1,7 @@
 -- Laws: tests in the order of their numbers, asked one after another, find the lowest number that holds; such a chain cut in two.
 use Rattle.std.specs.Prelude.{◌≡◌, refl, Bool, true, false, ◌&&◌, cond, List, [], ◌∷◌, ◌++◌, ℕ, ◌<◌, T, eqb, ltb}
-use Rattle.std.proofs.Common.{sym, ◌∙◌, ap, arith, ltb-true, eq-eqb, ne_eqb, ⊎_elim}
-use Rattle.laws.specs.Bools.{is_true, true_is, true_or_false, and_left, and_right}
-use Rattle.laws.specs.Fit.{no_both}
+use Rattle.std.proofs.Common.{sym, ◌∙◌, ap, arith, ltb-true, eq-eqb, ne_eqb}
+use Rattle.laws.specs.Bools.{is_true, true_is, and_left, and_right}
 use Rattle.refusal.specs.Refusals.{Test, lowest}
 use Rattle.refusal.specs.RefusalLaws.{above, lowest_skip, lowest-take}
 

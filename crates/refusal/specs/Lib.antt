@@ -4,3 +4,5 @@ pub mod Lengths
 pub mod LengthLaws
 pub mod ThreeTests
 pub mod ChainLaws
+pub mod Outcomes
+pub mod OutcomeLaws

@@ -1,5 +1,5 @@
 -- Rules: document 01, "Sizes and refusal numbers". If several hold, the lowest number among 1 to 7 is given; 0 is done.
-use Rattle.std.specs.Prelude.{◌≡◌, Bool, true, false, ◌&&◌, ◌||◌, cond, List, [], ◌∷◌, ℕ, ◌≤◌, eqb, ltb, ℤ, pos, negsuc}
+use Rattle.std.specs.Prelude.{◌≡◌, Bool, ◌&&◌, ◌||◌, cond, List, [], ◌∷◌, ℕ, ◌≤◌, eqb, ltb, ℤ, pos, negsuc}
 use Rattle.std.specs.Int.Signed.{lt_z}
 
 -- a row of the table: its number, and whether it holds

@@ -4,6 +4,43 @@
 ghost use Rattle.std.specs.Prelude.{◌≤◌};
 ghost use Rattle.refusal.specs.Refusals.{BadSizeSays, BadPlaceSays};
 ghost use Rattle.refusal.specs.Lengths.{BadPictureSays, BadTableSays};
+ghost use Rattle.refusal.specs.Outcomes.{NumberSays};
+
+// Why a call is refused; the order is that of document 01's numbers. The last one is given by a program alone.
+#[derive(Clone, Copy, PartialEq, Eq, Debug)]
+pub enum Refusal {
+    // w or h
+    Size,
+    // of a lent slice
+    Length,
+    // of levels, shapes, candidates or passes
+    Count,
+    // a coordinate or radius
+    Place,
+    Opacity,
+    Colour,
+    Pixel,
+    // a line that is no frame, or a frame at the wrong time
+    Malformed,
+}
+
+impl Refusal {
+    // Document 01's number.
+    pub fn number(self) -> u8
+        ensures { NumberSays self result }
+    {
+        match self {
+            Refusal::Size => 1,
+            Refusal::Length => 2,
+            Refusal::Count => 3,
+            Refusal::Place => 4,
+            Refusal::Opacity => 5,
+            Refusal::Colour => 6,
+            Refusal::Pixel => 7,
+            Refusal::Malformed => 8,
+        }
+    }
+}
 
 pub const SIZE: u8 = 1;
 

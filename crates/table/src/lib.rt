@@ -6,10 +6,12 @@ ghost use Rattle.std.specs.Float.{nan};
 ghost use Rattle.std.specs.Int.Signed.{le_z, lt_z};
 ghost use Rattle.laws.specs.Rows.{cut, put_row, put_rows};
 ghost use Rattle.refusal.specs.Refusals.{lowest, size_if, length_if, bad_size};
+ghost use Rattle.refusal.specs.Outcomes.{number_of};
 ghost use Rattle.sums.specs.Sums.{three};
 ghost use Rattle.table.specs.Table.{bad_lengths, BuildSays, UpdateCanvasRowsSays, AddSpanSays, ReadPlaceSays};
 ghost use Rattle.table.specs.Fills.{Sizes, Tested, NumbersBetween, RowNumbers, row_at};
 
+use refusal::Refusal;
 use sums::ShapeSums;
 
 // The series' places among the fifteen.
@@ -24,21 +26,24 @@ const C2: usize = 9;
 const TC: usize = 12;
 
 // The table of a target and a canvas within 0..1; or a refusal, and then no number of `table` has changed.
-pub fn build(target: &[f32], canvas: &[f32], w: usize, h: usize, table: &mut [f64]) -> u8
-    ensures { BuildSays target.now canvas.now w h table.old result table.new }
+pub fn build(
+    target: &[f32],
+    canvas: &[f32],
+    w: usize,
+    h: usize,
+    table: &mut [f64],
+) -> Result<(), Refusal>
+    ensures { BuildSays target.now canvas.now w h table.old (number_of result) table.new }
 {
-    let no = refused(target.len(), canvas.len(), w, h, table.len());
-    if no != 0 {
-        return no;
-    }
+    tested(target.len(), canvas.len(), w, h, table.len())?;
     if !float::all_within(target) {
-        return refusal::PIXEL;
+        return Err(Refusal::Pixel);
     }
     if !float::all_within(canvas) {
-        return refusal::PIXEL;
+        return Err(Refusal::Pixel);
     }
     rebuild_rows(target, canvas, w, h, table, 0, h, true);
-    0
+    Ok(())
 }
 
 // The canvas's sums afresh in rows ymin to ymax, both included. As in the Rust, a negative ymax is a huge number, so
@@ -51,17 +56,14 @@ pub fn update_canvas_rows(
     table: &mut [f64],
     ymin: i32,
     ymax: i32,
-) -> u8
-    ensures { UpdateCanvasRowsSays target.now canvas.now w h table.old ymin ymax result table.new }
+) -> Result<(), Refusal>
+    ensures { UpdateCanvasRowsSays target.now canvas.now w h table.old ymin ymax (number_of result) table.new }
 {
-    let no = refused(target.len(), canvas.len(), w, h, table.len());
-    if no != 0 {
-        return no;
-    }
+    tested(target.len(), canvas.len(), w, h, table.len())?;
     let hi = end_row(ymax, h);
     let lo = first_row(ymin, hi);
     rebuild_rows(target, canvas, w, h, table, lo, hi, false);
-    0
+    Ok(())
 }
 
 // Pixels left <= x < right of row y, added to the running sums.
@@ -109,23 +111,23 @@ fn three_at(table: &[f64], at: usize) -> [f64; 3]
     [table[at], table[at + 1], table[at + 2]]
 }
 
-// The tests on numbers alone: 0, or the number of the refusal.
-fn refused(target: usize, canvas: usize, w: usize, h: usize, table: usize) -> u8
-    ensures { result ≡ lowest (size_if (bad_size w h) ∷ length_if (bad_lengths w h target canvas table) ∷ []) }
+// The tests on numbers alone.
+fn tested(target: usize, canvas: usize, w: usize, h: usize, table: usize) -> Result<(), Refusal>
+    ensures { number_of result ≡ lowest (size_if (bad_size w h) ∷ length_if (bad_lengths w h target canvas table) ∷ []) }
 {
     if refusal::bad_size(w, h) {
-        return refusal::SIZE;
+        return Err(Refusal::Size);
     }
     if refusal::bad_picture(w, h, target) {
-        return refusal::LENGTH;
+        return Err(Refusal::Length);
     }
     if refusal::bad_picture(w, h, canvas) {
-        return refusal::LENGTH;
+        return Err(Refusal::Length);
     }
     if refusal::bad_table(w, h, table) {
-        return refusal::LENGTH;
+        return Err(Refusal::Length);
     }
-    0
+    Ok(())
 }
 
 // The row after the last one to be redone.

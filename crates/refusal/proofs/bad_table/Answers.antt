@@ -3,7 +3,6 @@ use Prim.Native.Nat.{◌+◌, ◌*◌, ◌≤◌}
 use native.Mathlib.Nat.{mul-le-mul}
 use Rattle.refusal.specs.Lengths.{bad_table}
 use native.Mathlib.Omega.{arith}
-use borrow.Author.Rules.{rules}
 use Rattle.refusal.proofs.bad_table.Goals as goal
 use Rattle.refusal.proofs.bad_table.Goals.{Start}
 
