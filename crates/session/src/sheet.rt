@@ -53,7 +53,7 @@ pub(crate) fn make(
 {
     picture::fill(w, h, 0.0, 0.0, 0.0, target);
     picture::fill(w, h, channel(red), channel(green), channel(blue), canvas);
-    table::build(target, canvas, w, h, table);
+    let _ = table::build(target, canvas, w, h, table);
 }
 
 // A row of the target. All of the table is built again: its target sums are stale, and no update redoes those.
@@ -74,7 +74,7 @@ pub(crate) fn set_row(
     let n = w * 3;
     let a = y * n;
     put_channels(pixels, &mut target[a..a + n]);
-    table::build(target, canvas, w, h, table);
+    let _ = table::build(target, canvas, w, h, table);
 }
 
 // The score of a shape, or the number of the refusal.
@@ -103,6 +103,6 @@ pub(crate) fn paint(
 {
     picture::blend(kind, opacity, s.red, s.green, s.blue, w, h, canvas);
     let reach = cover::row_reach(kind, h);
-    table::update_canvas_rows(target, canvas, w, h, table, reach.first, reach.last);
+    let _ = table::update_canvas_rows(target, canvas, w, h, table, reach.first, reach.last);
     picture::total_any(target, canvas)
 }
