@@ -3,10 +3,13 @@ use Rattle.std.specs.Prelude.{◌≡◌, ℕ, cond, eqb, Result, Ok, Err, ⊤}
 use Rattle.std.proofs.Common.{refl, sym, ap, ◌∙◌, arith}
 use Rattle.refusal.specs.declared.Refusal.{Refusal}
 use Rattle.refusal.specs.declared.Refusal.TheVariants.{Size, Length, Count, Place, Opacity, Colour, Pixel, Malformed}
-use Rattle.refusal.specs.Outcomes.{number, NumberSays, Outcome, Done, Refused, outcome, number_of}
+use Rattle.refusal.specs.Outcomes.{number, NumberSays, Outcome, Done, Refused, outcome, number_of, NumberOfSays}
 
 pub NumberSays-unique : (e : Refusal) (r s : ℕ) → NumberSays e r → NumberSays e s → r ≡ s
 NumberSays-unique e r s p q = p ∙ sym q
+
+pub NumberOfSays-unique : (d : Result ⊤ Refusal) (r s : ℕ) → NumberOfSays d r → NumberOfSays d s → r ≡ s
+NumberOfSays-unique d r s p q = p ∙ sym q
 
 pub number-positive : (e : Refusal) → number e ≡ 0 → ⊥
 number-positive Size h = omega (arith, h)

@@ -29,3 +29,6 @@ outcome (Err e) = Refused (number e)
 abbrev pub number_of : Result ⊤ Refusal → ℕ
 number_of (Ok u) = 0
 number_of (Err e) = number e
+
+abbrev pub NumberOfSays : Result ⊤ Refusal → ℕ → Type 0
+NumberOfSays r n = n ≡ number_of r

@@ -4,7 +4,7 @@
 ghost use Rattle.std.specs.Prelude.{◌≤◌};
 ghost use Rattle.refusal.specs.Refusals.{BadSizeSays, BadPlaceSays};
 ghost use Rattle.refusal.specs.Lengths.{BadPictureSays, BadTableSays};
-ghost use Rattle.refusal.specs.Outcomes.{NumberSays};
+ghost use Rattle.refusal.specs.Outcomes.{NumberSays, NumberOfSays};
 
 // Why a call is refused; the order is that of document 01's numbers. The last one is given by a program alone.
 #[derive(Clone, Copy, PartialEq, Eq, Debug)]
@@ -39,6 +39,16 @@ impl Refusal {
             Refusal::Pixel => 7,
             Refusal::Malformed => 8,
         }
+    }
+}
+
+// The number of what a call without a value answers: 0 where it is done.
+pub fn number_of(done: Result<(), Refusal>) -> u8
+    ensures { NumberOfSays done result }
+{
+    match done {
+        Ok(()) => 0,
+        Err(no) => no.number(),
     }
 }
 
