@@ -5,6 +5,7 @@
 #![tactic(auto)]
 
 ghost use Rattle.std.specs.Prelude.{◌≡◌, pos, neg_ℤ};
+ghost use Rattle.refusal.specs.Outcomes.{number};
 ghost use Rattle.cover.specs.Cover.{count, row_ends, refusal_of};
 ghost use Rattle.capi.specs.Answers.{refused_by, shapeless};
 ghost use Rattle.capi.specs.Exports.{
@@ -22,7 +23,8 @@ ghost use Rattle.capi.specs.Exports.{
   SillbadgerRightQuadSays,
 };
 
-use cover::{Counted, Ended, Kind};
+use cover::Kind;
+use refusal::Refusal;
 
 pub mod painting;
 pub mod pictures;
@@ -86,10 +88,10 @@ pub extern "C" fn sillbadger_narrow_bits(bits: u64) -> i64
 }
 
 // A refusal's number, exported.
-fn minus(k: u8) -> i64
-    ensures { result ≡ neg_ℤ (pos k) }
+fn minus(why: Refusal) -> i64
+    ensures { result ≡ neg_ℤ (pos (number why)) }
 {
-    0 - k as i64
+    0 - why.number() as i64
 }
 
 fn count_of(kind: Kind, w: u32, h: u32) -> i64
@@ -97,8 +99,8 @@ fn count_of(kind: Kind, w: u32, h: u32) -> i64
 {
     let c = cover::count_covered(kind, w as usize, h as usize);
     match c {
-        Counted::Done(n) => n as i64,
-        Counted::Refused(k) => minus(k),
+        Ok(n) => n as i64,
+        Err(why) => minus(why),
     }
 }
 
@@ -108,9 +110,15 @@ fn end_of(kind: Kind, w: u32, h: u32, y: i32, last: bool) -> i64
 {
     let e = cover::row_ends(kind, w as usize, h as usize, y);
     match e {
-        Ended::Columns(left, right) => if last { right as i64 } else { left as i64 },
-        Ended::Nothing => -9,
-        Ended::Refused(k) => minus(k),
+        Ok(Some(columns)) => {
+            if last {
+                columns.last as i64
+            } else {
+                columns.first as i64
+            }
+        }
+        Ok(None) => -9,
+        Err(why) => minus(why),
     }
 }
 

@@ -1,5 +1,5 @@
 -- Laws: a tiny shape lies in its window; stamps of moved shapes; two stamps that are known are one.
-use Rattle.std.specs.Prelude.{◌≡◌, Bool, true, ◌&&◌, cond, [], ◌∷◌, ℕ, ◌+◌, ℤ, pos, ◌+ℤ◌, ◌-ℤ◌, ◌≤ℤ◌, ◌<ℤ◌}
+use Rattle.std.specs.Prelude.{◌≡◌, Bool, true, ◌&&◌, cond, [], ◌∷◌, ℕ, ◌+◌, ℤ, pos, ◌+ℤ◌, ◌-ℤ◌, ◌≤ℤ◌, ◌<ℤ◌, Some}
 use Rattle.std.proofs.Math.Path.{refl}
 use Rattle.std.proofs.Common.{sym, ◌∙◌, ap, ap₂, arith}
 use Rattle.std.specs.Int.Signed.{le_z, lt_z}
@@ -22,11 +22,11 @@ use Rattle.cover.specs.Cover.{covered, lowest_row, highest_row}
 use Rattle.cover.specs.CoverLaws.{covered-rows, covered-columns}
 use Rattle.cover.specs.ReachRows.{turned}
 use Rattle.cover.specs.StepLaws.{twice}
-use Rattle.cover.specs.Stamps.{Stamped, no_stamp, StampSays, FirstColumnSays, Among}
+use Rattle.cover.specs.Stamps.{Stamped, StampSays, FirstColumnSays, Among}
 
 -- two stamps that are known are equal; that none is known is an answer for any shape
-pub StampSays-unique : (kind : Kind) (left top w h r s : ℕ) → StampSays kind left top w h r → StampSays kind left top w h s → (r ≡ no_stamp → ⊥) → (s ≡ no_stamp → ⊥) → r ≡ s
-StampSays-unique kind left top w h r s f g a b = (f a).is ∙ sym (g b).is
+pub StampSays-unique : (kind : Kind) (left top w h r s : ℕ) → StampSays kind left top w h (Some r) → StampSays kind left top w h (Some s) → r ≡ s
+StampSays-unique kind left top w h r s f g = f.is ∙ sym g.is
 
 pub FirstColumnSays-unique : (kind : Kind) (w r s : ℕ) → FirstColumnSays kind w r → FirstColumnSays kind w s → r ≡ s
 FirstColumnSays-unique kind w r s f g = f ∙ sym g

@@ -1,5 +1,5 @@
 -- Rules: the covered pixels of a tiny shape as a stamp: eight rows of eight pixels, as the binary digits of a number.
-use Rattle.std.specs.Prelude.{◌≡◌, ℕ, ◌+◌, ℤ, pos, ◌≤ℤ◌, ◌<ℤ◌}
+use Rattle.std.specs.Prelude.{◌≡◌, ℕ, ◌+◌, ℤ, pos, ◌≤ℤ◌, ◌<ℤ◌, Option, IfSome}
 use Rattle.polygon.specs.Polygon.{least_of, greatest_of}
 use Rattle.polygon.specs.OneRow.{four}
 use Rattle.stamp.specs.Stamp.{stamp_of}
@@ -13,12 +13,9 @@ pub record Stamped (kind : Kind) (left top w h r : ℕ) : Type 0 where
   pub is : r ≡ stamp_of (covered kind) left top
   pub window : InWindow (covered kind) left top w h
 
--- that no stamp is known; a shape that covers all 64 pixels has no other
-abbrev pub no_stamp : ℕ
-no_stamp = 0xffff_ffff_ffff_ffff
-
-abbrev pub StampSays : Kind → ℕ → ℕ → ℕ → ℕ → ℕ → Type 0
-StampSays kind left top w h r = (r ≡ no_stamp → ⊥) → Stamped kind left top w h r
+-- of a stamp that is known; that none is known is an answer for any shape
+abbrev pub StampSays : Kind → ℕ → ℕ → ℕ → ℕ → Option ℕ → Type 0
+StampSays kind left top w h r = IfSome r (Stamped kind left top w h)
 
 -- the first column of the reach is the first row of the turned shape's
 abbrev pub FirstColumnSays : Kind → ℕ → ℕ → Type 0

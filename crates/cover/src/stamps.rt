@@ -4,13 +4,10 @@ ghost use Rattle.laws.specs.Bound.{Bounded};
 ghost use Rattle.refusal.specs.Refusals.{Sized};
 ghost use Rattle.cover.specs.declared.Kind.TheVariants.{Circle, Triangle, Quad};
 ghost use Rattle.cover.specs.Cover.{bad_places};
-ghost use Rattle.cover.specs.Stamps.{StampSays, FirstColumnSays, Among, Framed};
+ghost use Rattle.cover.specs.Stamps.{Stamped, StampSays, FirstColumnSays, Among, Framed};
 
 use crate::Kind;
 use crate::reached::{rows_of, turned};
-
-// No stamp is known. All 64 pixels would be the same number: such a shape goes by its runs.
-pub const NO_STAMP: u64 = 0xffff_ffff_ffff_ffff;
 
 // The first of the columns that a shape can reach.
 pub fn first_column(kind: Kind, w: usize) -> usize
@@ -43,16 +40,24 @@ fn begins(c: i32, r: i32, from: usize, n: usize) -> bool
 }
 
 // A circle of radius 1, 2 or 3 that lies in the picture. Its first column and row are those of the stamp.
-pub fn circle_stamp(cx: i32, cy: i32, r: i32, left: usize, top: usize, w: usize, h: usize) -> u64
+pub fn circle_stamp(
+    cx: i32,
+    cy: i32,
+    r: i32,
+    left: usize,
+    top: usize,
+    w: usize,
+    h: usize,
+) -> Option<u64>
     requires sizes { Sized w h }
     requires places { bad_places (Circle cx cy r) ≡ false }
     requires window { (left ≤ 255) × (top ≤ 255) }
     ensures { StampSays (Circle cx cy r) left top w h result }
 {
     if (1 <= r) & (r <= 3) & begins(cx, r, left, w) & begins(cy, r, top, h) {
-        return stamp::circle_stamp(r);
+        return Some(stamp::circle_stamp(r));
     }
-    NO_STAMP
+    None
 }
 
 // Four corners lie in the picture, among eight columns and eight rows.
@@ -100,7 +105,7 @@ fn framed_stamp(
     requires corners { Bounded 8191 x0 × Bounded 8191 y0 × Bounded 8191 x1 × Bounded 8191 y1 × Bounded 8191 x2 × Bounded 8191 y2 × Bounded 8191 x3 × Bounded 8191 y3 }
     requires window { (left ≤ 255) × (top ≤ 255) }
     requires places { Framed x0 y0 x1 y1 x2 y2 x3 y3 left top w h }
-    ensures { StampSays (Quad x0 y0 x1 y1 x2 y2 x3 y3) left top w h result }
+    ensures { Stamped (Quad x0 y0 x1 y1 x2 y2 x3 y3) left top w h result }
 {
     let x = left as i32;
     let y = top as i32;
@@ -128,16 +133,16 @@ pub fn triangle_stamp(
     top: usize,
     w: usize,
     h: usize,
-) -> u64
+) -> Option<u64>
     requires sizes { Sized w h }
     requires places { bad_places (Triangle x0 y0 x1 y1 x2 y2) ≡ false }
     requires window { (left ≤ 255) × (top ≤ 255) }
     ensures { StampSays (Triangle x0 y0 x1 y1 x2 y2) left top w h result }
 {
     if framed(x0, y0, x1, y1, x2, y2, x2, y2, left, top, w, h) {
-        return framed_stamp(x0, y0, x1, y1, x2, y2, x2, y2, left, top, w, h);
+        return Some(framed_stamp(x0, y0, x1, y1, x2, y2, x2, y2, left, top, w, h));
     }
-    NO_STAMP
+    None
 }
 
 // A quad that lies in the picture.
@@ -154,20 +159,20 @@ fn quad_stamp(
     top: usize,
     w: usize,
     h: usize,
-) -> u64
+) -> Option<u64>
     requires sizes { Sized w h }
     requires places { bad_places (Quad x0 y0 x1 y1 x2 y2 x3 y3) ≡ false }
     requires window { (left ≤ 255) × (top ≤ 255) }
     ensures { StampSays (Quad x0 y0 x1 y1 x2 y2 x3 y3) left top w h result }
 {
     if framed(x0, y0, x1, y1, x2, y2, x3, y3, left, top, w, h) {
-        return framed_stamp(x0, y0, x1, y1, x2, y2, x3, y3, left, top, w, h);
+        return Some(framed_stamp(x0, y0, x1, y1, x2, y2, x3, y3, left, top, w, h));
     }
-    NO_STAMP
+    None
 }
 
-// The covered pixels of eight rows of eight, from column left and row top on, or NO_STAMP.
-pub fn stamp_of(kind: Kind, left: usize, top: usize, w: usize, h: usize) -> u64
+// The covered pixels of eight rows of eight, from column left and row top on, where such a stamp is known.
+pub fn stamp_of(kind: Kind, left: usize, top: usize, w: usize, h: usize) -> Option<u64>
     requires sizes { Sized w h }
     requires places { bad_places kind ≡ false }
     requires window { (left ≤ 255) × (top ≤ 255) }

@@ -1,6 +1,6 @@
 -- Laws: demand 1. That every call ends, inside what is lent to it, the prover shows of each function. Here: bad input gets the number of document 01's
 -- table, and a refused call changes nothing. Each theorem is about the promise of one public function.
-use Rattle.std.specs.Prelude.{◌≡◌, Bool, true, not, ◌||◌, List, [], ◌∷◌, ◌++◌, ℕ, zero, suc, ◌<◌, ◌≤◌, T, ltb, ℤ, length, Float}
+use Rattle.std.specs.Prelude.{◌≡◌, Bool, true, not, ◌||◌, List, [], ◌∷◌, ◌++◌, ℕ, zero, suc, ◌<◌, ◌≤◌, T, ltb, ℤ, length, Float, Option}
 use Rattle.std.proofs.Math.Path.{refl, ap}
 use Rattle.std.proofs.Common.{sym, ◌∙◌, arith}
 use Rattle.std.proofs.Math.Bool.{false, cond}
@@ -8,18 +8,17 @@ use borrow.Author.Tests.{ne_eqb, eqb-true}
 use Rattle.std.proofs.Math.Dec.{eqb}
 use Rattle.laws.specs.Answer.{Answer, answer}
 use Rattle.laws.specs.Ends.{Ends, none}
+use Rattle.refusal.specs.Outcomes.{Outcome}
 use Rattle.refusal.specs.Refusals.{Test, lowest, size_if, length_if, count_if, place_if, opacity_if, colour_if, pixel_if, bad_size}
 use Rattle.refusal.specs.RefusalLaws.{above, Held, lowest_holds, lowest_least}
 use Rattle.refusal.specs.Lengths.{bad_picture, bad_table}
 use Rattle.float.specs.Within.{within, all_within}
 use Rattle.cover.specs.declared.Kind.{Kind}
-use Rattle.cover.specs.declared.Band.{Band}
-use Rattle.cover.specs.declared.Counted.{Counted}
-use Rattle.cover.specs.declared.Ended.{Ended}
-use Rattle.cover.specs.declared.Banded.{Banded}
+use Rattle.cover.specs.declared.Reach.{Reach}
+use Rattle.cover.specs.declared.Columns.{Columns}
 use Rattle.cover.specs.Cover as cover
 use Rattle.cover.specs.Cover.{bad_places}
-use Rattle.cover.specs.Answers.{count_answer, ends_answer, band_answer, no_band, CountCoveredSays, RowEndsSays, RedrawBandSays}
+use Rattle.cover.specs.Answers.{answer_of, same, ends_in, no_band, CountCoveredSays, RowEndsSays, RedrawBandSays}
 use Rattle.sums.specs.declared.ShapeSums.{ShapeSums}
 use Rattle.sums.specs.Sums.{no_sums}
 use Rattle.table.specs.Table.{build_refusal, update_refusal, BuildSays, UpdateCanvasRowsSays}
@@ -70,17 +69,17 @@ module _ (kind : Kind) (w h : ℕ) where
   abbrev shape_tests : List Test
   shape_tests = size_if (bad_size w h) ∷ place_if (bad_places kind) ∷ []
 
-  pub count_refuses_as_tabled : (r : Counted) → CountCoveredSays kind w h r → (count_answer r).number ≡ lowest shape_tests
+  pub count_refuses_as_tabled : (r : Outcome ℕ) → CountCoveredSays kind w h r → (answer_of same 0 r).number ≡ lowest shape_tests
   unfolding cover.refusal_of
   count_refuses_as_tabled r p = ap (λ (a : Answer ℕ). a.number) p
 
-  pub ends_refuse_as_tabled : (y : ℤ) (r : Ended) → RowEndsSays kind w h y r → (ends_answer r).number ≡ lowest shape_tests
+  pub ends_refuse_as_tabled : (y : ℤ) (r : Outcome (Option Columns)) → RowEndsSays kind w h y r → (answer_of ends_in none r).number ≡ lowest shape_tests
   unfolding cover.refusal_of
   ends_refuse_as_tabled y r p = ap (λ (a : Answer Ends). a.number) p
 
-  pub band_refuses_as_tabled : (r : Banded) → RedrawBandSays kind w h r → (band_answer r).number ≡ lowest shape_tests
+  pub band_refuses_as_tabled : (r : Outcome Reach) → RedrawBandSays kind w h r → (answer_of same no_band r).number ≡ lowest shape_tests
   unfolding cover.refusal_of
-  band_refuses_as_tabled r p = ap (λ (a : Answer Band). a.number) p
+  band_refuses_as_tabled r p = ap (λ (a : Answer Reach). a.number) p
 
 -- "length: a lent slice has another length than stated; pixel: build, mean or total meets a pixel value not within 0..1"
 pub build_refuses_as_tabled : (target canvas : List Float) (w h : ℕ) (old : List Float) (r : ℕ) (new : List Float) → BuildSays target canvas w h old r new
@@ -214,13 +213,13 @@ refused-answer n right naught given = ap (λ (b : Bool). record { number = n; va
 
 -- "A refused call returns its number with every other part of the answer zero"
 module _ (kind : Kind) (w h : ℕ) (given : cover.refusal_of kind w h ≡ 0 → ⊥) where
-  pub refused-count : (r : Counted) → CountCoveredSays kind w h r → count_answer r ≡ record { number = cover.refusal_of kind w h; value = 0; done = false }
+  pub refused-count : (r : Outcome ℕ) → CountCoveredSays kind w h r → answer_of same 0 r ≡ record { number = cover.refusal_of kind w h; value = 0; done = false }
   refused-count r p = p ∙ refused-answer (cover.refusal_of kind w h) (cover.count kind w h) 0 given
 
-  pub refused-ends : (y : ℤ) (r : Ended) → RowEndsSays kind w h y r → ends_answer r ≡ record { number = cover.refusal_of kind w h; value = none; done = false }
+  pub refused-ends : (y : ℤ) (r : Outcome (Option Columns)) → RowEndsSays kind w h y r → answer_of ends_in none r ≡ record { number = cover.refusal_of kind w h; value = none; done = false }
   refused-ends y r p = p ∙ refused-answer (cover.refusal_of kind w h) (cover.row_ends kind w h y) none given
 
-  pub refused_band : (r : Banded) → RedrawBandSays kind w h r → band_answer r ≡ record { number = cover.refusal_of kind w h; value = no_band; done = false }
+  pub refused_band : (r : Outcome Reach) → RedrawBandSays kind w h r → answer_of same no_band r ≡ record { number = cover.refusal_of kind w h; value = no_band; done = false }
   refused_band r p = p ∙ refused-answer (cover.refusal_of kind w h) (cover.band kind h) no_band given
 
 pub refused-score : (n : ℕ) (s : Score) → (n ≡ 0 → ⊥) → answered n s ≡ Refused n

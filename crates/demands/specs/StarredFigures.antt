@@ -2,10 +2,9 @@
 use Rattle.std.specs.Prelude.{◌≡◌, List, [], ◌∷◌, ℕ, ℤ, pos, negsuc}
 use Rattle.whole.specs.Whole.{DivFloorI64Says, DivCeilI64Says}
 use Rattle.whole.specs.WholeFigures.{division_figures}
+use Rattle.refusal.specs.Outcomes.{Outcome, Done}
 use Rattle.cover.specs.declared.Kind.{Kind}
 use Rattle.cover.specs.declared.Kind.TheVariants.{Circle, Triangle, Quad}
-use Rattle.cover.specs.declared.Counted.{Counted}
-use Rattle.cover.specs.declared.Counted.TheVariants as counted
 use Rattle.cover.specs.Cover.{count}
 use Rattle.cover.specs.Answers.{CountCoveredSays}
 use Rattle.cover.specs.Figures.{cover_figures}
@@ -17,7 +16,7 @@ pub data Figure : Type 0 where
 
 -- the rule gives it, and so does whatever meets the promise
 abbrev pub Holds : Figure → Type 0
-Holds (covers kind w h n) = (count kind w h ≡ n) × ((a : Counted) → CountCoveredSays kind w h a → a ≡ counted.Done n)
+Holds (covers kind w h n) = (count kind w h ≡ n) × ((a : Outcome ℕ) → CountCoveredSays kind w h a → a ≡ Done n)
 Holds (divides a b down up) = ((q : ℤ) → DivFloorI64Says a b q → q ≡ down) × ((q : ℤ) → DivCeilI64Says a b q → q ≡ up)
 
 abbrev pub AllHold : List Figure → Type 0

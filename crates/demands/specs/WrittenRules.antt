@@ -11,13 +11,12 @@ use Rattle.std.specs.Float.{fin, binary32, binary64}
 use Rattle.laws.specs.Answer.{Answer}
 use Rattle.laws.specs.RowSums.{OfTarget, OfCanvas, target_sum, canvas_sum, picture_of}
 use Rattle.laws.specs.Pictures.{channel_of}
+use Rattle.refusal.specs.Outcomes.{Outcome}
 use Rattle.cover.specs.declared.Kind.{Kind}
-use Rattle.cover.specs.declared.Counted.{Counted}
-use Rattle.cover.specs.declared.Band.{Band}
-use Rattle.cover.specs.declared.Banded.{Banded}
+use Rattle.cover.specs.declared.Reach.{Reach}
 use Rattle.cover.specs.Cover.{covered, count, reach, band, refusal_of}
 use Rattle.cover.specs.CoverLaws.{left_at, right_at, in_run, in_reach}
-use Rattle.cover.specs.Answers.{count_answer, CountCoveredSays, band_answer, no_band, RedrawBandSays}
+use Rattle.cover.specs.Answers.{answer_of, same, no_band, CountCoveredSays, RedrawBandSays}
 use Rattle.sums.specs.declared.ShapeSums.{ShapeSums}
 use Rattle.table.specs.Layout.{Series, of_target, of_canvas, entry}
 use Rattle.table.specs.Table.{f64_sums, picture, redone, BuildSays, UpdateCanvasRowsSays}
@@ -70,16 +69,16 @@ pub boxes_leave_out_nothing : (kind : Kind) (x y h : ℕ) → y < h → covered 
 boxes_leave_out_nothing kind x y h l t = in_reach kind x y h l t
 
 -- "a count not equal to the covered pixels": what a count that is not refused answers
-pub count-is-covered-pixels : (kind : Kind) (w h : ℕ) (r : Counted) → CountCoveredSays kind w h r → refusal_of kind w h ≡ 0 → (count_answer r).value ≡ count kind w h
+pub count-is-covered-pixels : (kind : Kind) (w h : ℕ) (r : Outcome ℕ) → CountCoveredSays kind w h r → refusal_of kind w h ≡ 0 → (answer_of same 0 r).value ≡ count kind w h
 count-is-covered-pixels kind w h r p z = ap (λ (a : Answer ℕ). a.value) p ∙ ap (λ (b : Bool). cond b (count kind w h) 0) (eq-eqb (refusal_of kind w h) 0 z)
 
 -- "The redraw band, added for our screen, is the row reach"
-pub band_is_row_reach : (kind : Kind) (w h : ℕ) (r : Banded) → RedrawBandSays kind w h r → refusal_of kind w h ≡ 0
-    → ((band_answer r).value.first ≡ (reach kind h).first) × ((band_answer r).value.last ≡ (reach kind h).last)
+pub band_is_row_reach : (kind : Kind) (w h : ℕ) (r : Outcome Reach) → RedrawBandSays kind w h r → refusal_of kind w h ≡ 0
+    → ((answer_of same no_band r).value.first ≡ (reach kind h).first) × ((answer_of same no_band r).value.last ≡ (reach kind h).last)
 unfolding band
 band_is_row_reach kind w h r p z =
     let e = p ∙ ap (λ (b : Bool). record { number = refusal_of kind w h; value = cond b (band kind h) no_band; done = b }) (eq-eqb (refusal_of kind w h) 0 z) in
-    (ap (λ (a : Answer Band). a.value.first) e, ap (λ (a : Answer Band). a.value.last) e)
+    (ap (λ (a : Answer Reach). a.value.first) e, ap (λ (a : Answer Reach). a.value.last) e)
 
 -- "Place x+1 is place x plus pixel x, both values widened first, added in f64 left to right": every number of a built table
 module _ (w h : ℕ) (target canvas old new : List Float) (p : BuildSays target canvas w h old 0 new) where

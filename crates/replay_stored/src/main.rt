@@ -2,7 +2,7 @@
 // says how many there are and how many of ours differ. A line that does not read as oracle/answers.rs writes it counts as a difference.
 #![tactic(auto)]
 
-use cover::{Counted, Ended, Kind};
+use cover::Kind;
 use std::io;
 use std::io::Read;
 use words::scan;
@@ -11,12 +11,6 @@ use words::scan;
 struct Tally {
     cases: u64,
     differences: u64,
-}
-
-#[derive(Clone, Copy)]
-enum Asked {
-    Shape(Kind),
-    Nothing,
 }
 
 // ---- a whole-number function: arguments, "=", one answer
@@ -37,37 +31,37 @@ fn number_agrees(name: &[u8], n: usize, x: i64, y: i64, answer: i64) -> bool {
 // ---- a shape: w, h, coordinates, a row, "=", the count, both ends
 
 // n numbers are given, with two sizes and a row among them.
-fn shape(name: &[u8], n: usize, p: &[u64; 12]) -> Asked {
+fn shape(name: &[u8], n: usize, p: &[u64; 12]) -> Option<Kind> {
     let x0 = words::signed32(p[2]);
     let y0 = words::signed32(p[3]);
     let x1 = words::signed32(p[4]);
     if check::same(name, b"circle") {
         if n == 6 {
-            return Asked::Shape(Kind::Circle(x0, y0, x1));
+            return Some(Kind::Circle(x0, y0, x1));
         }
-        return Asked::Nothing;
+        return None;
     }
     let y1 = words::signed32(p[5]);
     let x2 = words::signed32(p[6]);
     let y2 = words::signed32(p[7]);
     if check::same(name, b"triangle") {
         if n == 9 {
-            return Asked::Shape(Kind::Triangle(x0, y0, x1, y1, x2, y2));
+            return Some(Kind::Triangle(x0, y0, x1, y1, x2, y2));
         }
-        return Asked::Nothing;
+        return None;
     }
     let x3 = words::signed32(p[8]);
     let y3 = words::signed32(p[9]);
     if check::same(name, b"quad") {
         if n == 11 {
-            return Asked::Shape(Kind::Quad(x0, y0, x1, y1, x2, y2, x3, y3));
+            return Some(Kind::Quad(x0, y0, x1, y1, x2, y2, x3, y3));
         }
     }
-    Asked::Nothing
+    None
 }
 
 fn counts(kind: Kind, w: u64, h: u64, count: i64) -> bool {
-    let Counted::Done(n) = cover::count_covered(kind, w as usize, h as usize) else {
+    let Ok(n) = cover::count_covered(kind, w as usize, h as usize) else {
         return false;
     };
     n as i64 == count
@@ -76,14 +70,14 @@ fn counts(kind: Kind, w: u64, h: u64, count: i64) -> bool {
 fn ends(kind: Kind, w: u64, h: u64, y: i32, left: i64, right: i64) -> bool {
     let e = cover::row_ends(kind, w as usize, h as usize, y);
     match e {
-        Ended::Columns(l, r) => l as i64 == left && r as i64 == right,
-        Ended::Nothing => left == -9 && right == -9,
-        Ended::Refused(k) => false,
+        Ok(Some(c)) => c.first as i64 == left && c.last as i64 == right,
+        Ok(None) => left == -9 && right == -9,
+        Err(_) => false,
     }
 }
 
 fn shape_agrees(name: &[u8], n: usize, given: &[u64; 12], wanted: &[u64; 4]) -> bool {
-    let Asked::Shape(kind) = shape(name, n, given) else {
+    let Some(kind) = shape(name, n, given) else {
         return false;
     };
     let row = if n == 6 {

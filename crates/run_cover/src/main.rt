@@ -2,12 +2,13 @@
 // rule itself, pixel by pixel.
 #![tactic(auto)]
 
-use cover::{Banded, Counted, Ended, Kind};
+use cover::Kind;
+use refusal::Refusal;
 use std::io;
 
-fn refused(rt: &impl Print, number: u8) -> io::Result<()> {
+fn refused(rt: &impl Print, why: Refusal) -> io::Result<()> {
     show::text(rt, "refused ")?;
-    show::unsigned(rt, number as u64)?;
+    show::unsigned(rt, why.number() as u64)?;
     show::text(rt, "\n")
 }
 
@@ -58,12 +59,12 @@ fn count(rt: &impl Print, kind: Kind, w: usize, h: usize) -> io::Result<()> {
     size(rt, w, h)?;
     show::text(rt, ": ")?;
     match cover::count_covered(kind, w, h) {
-        Counted::Done(n) => {
+        Ok(n) => {
             show::unsigned(rt, n as u64)?;
             show::text(rt, "\n")?;
         }
-        Counted::Refused(number) => {
-            refused(rt, number)?;
+        Err(why) => {
+            refused(rt, why)?;
         }
     }
     Ok(())
@@ -91,14 +92,14 @@ fn ends(rt: &impl Print, kind: Kind, w: usize, h: usize, y: i32) -> io::Result<(
     size(rt, w, h)?;
     show::text(rt, ": ")?;
     match cover::row_ends(kind, w, h, y) {
-        Ended::Columns(first, last) => {
-            columns(rt, first, last)?;
+        Ok(Some(c)) => {
+            columns(rt, c.first, c.last)?;
         }
-        Ended::Nothing => {
+        Ok(None) => {
             show::text(rt, "none\n")?;
         }
-        Ended::Refused(number) => {
-            refused(rt, number)?;
+        Err(why) => {
+            refused(rt, why)?;
         }
     }
     Ok(())
@@ -110,11 +111,11 @@ fn band(rt: &impl Print, kind: Kind, w: usize, h: usize) -> io::Result<()> {
     size(rt, w, h)?;
     show::text(rt, ": ")?;
     match cover::redraw_band(kind, w, h) {
-        Banded::Done(b) => {
+        Ok(b) => {
             to(rt, b.first, b.last)?;
         }
-        Banded::Refused(number) => {
-            refused(rt, number)?;
+        Err(why) => {
+            refused(rt, why)?;
         }
     }
     Ok(())

@@ -66,8 +66,7 @@ pub fn span_score(
         }
         let left = cover::stamps::first_column(kind, w);
         if (bottom - top <= 8) & (left < w) {
-            let bits = cover::stamps::stamp_of(kind, left, top, w, h);
-            if bits != cover::stamps::NO_STAMP {
+            if let Some(bits) = cover::stamps::stamp_of(kind, left, top, w, h) {
                 let few = gather::spans::add_stamp(bits, left, top, table, w);
                 return done(grade::finalize(few, opacity));
             }
@@ -149,8 +148,7 @@ pub fn circle_point_score(
         }
         let left = cover::stamps::first_column(kind, w);
         if (bottom - top <= 8) & (left < w) {
-            let bits = cover::stamps::circle_stamp(cx, cy, r, left, top, w, h);
-            if bits != cover::stamps::NO_STAMP {
+            if let Some(bits) = cover::stamps::circle_stamp(cx, cy, r, left, top, w, h) {
                 let few = gather::points::unpaired(gather::points::push_stamp(
                     bits, left, top, target, canvas, w,
                 ));
@@ -199,8 +197,9 @@ pub fn triangle_point_score(
         }
         let left = cover::stamps::first_column(kind, w);
         if (bottom - top <= 8) & (left < w) {
-            let bits = cover::stamps::triangle_stamp(x0, y0, x1, y1, x2, y2, left, top, w, h);
-            if bits != cover::stamps::NO_STAMP {
+            if let Some(bits) = cover::stamps::triangle_stamp(
+                x0, y0, x1, y1, x2, y2, left, top, w, h,
+            ) {
                 let few = gather::points::unpaired(gather::points::push_stamp(
                     bits, left, top, target, canvas, w,
                 ));
@@ -227,8 +226,7 @@ pub fn collect_span_sums(kind: Kind, w: usize, h: usize, table: &[f64]) -> Colle
         }
         let left = cover::stamps::first_column(kind, w);
         if (bottom - top <= 8) & (left < w) {
-            let bits = cover::stamps::stamp_of(kind, left, top, w, h);
-            if bits != cover::stamps::NO_STAMP {
+            if let Some(bits) = cover::stamps::stamp_of(kind, left, top, w, h) {
                 let few = gather::spans::add_stamp(bits, left, top, table, w);
                 return Collected {
                     sums: few,
@@ -296,8 +294,7 @@ pub fn collect_circle_sums(
         }
         let left = cover::stamps::first_column(kind, w);
         if (bottom - top <= 8) & (left < w) {
-            let bits = cover::stamps::circle_stamp(cx, cy, r, left, top, w, h);
-            if bits != cover::stamps::NO_STAMP {
+            if let Some(bits) = cover::stamps::circle_stamp(cx, cy, r, left, top, w, h) {
                 let few = gather::points::unpaired(gather::points::push_stamp(
                     bits, left, top, target, canvas, w,
                 ));
@@ -341,8 +338,9 @@ pub fn collect_triangle_sums(
         }
         let left = cover::stamps::first_column(kind, w);
         if (bottom - top <= 8) & (left < w) {
-            let bits = cover::stamps::triangle_stamp(x0, y0, x1, y1, x2, y2, left, top, w, h);
-            if bits != cover::stamps::NO_STAMP {
+            if let Some(bits) = cover::stamps::triangle_stamp(
+                x0, y0, x1, y1, x2, y2, left, top, w, h,
+            ) {
                 let few = gather::points::unpaired(gather::points::push_stamp(
                     bits, left, top, target, canvas, w,
                 ));

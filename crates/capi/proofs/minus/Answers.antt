@@ -19,7 +19,9 @@ module _ (k : ℕ) (h : k < 256) where
   fits = rw less (omega (arith, of_mag (neg_ℤ (pos k)), P-neg (pos k), N-neg (pos k)))
 
 pub overflow_sub-result : goal.overflow_sub-result
-overflow_sub-result c = fits c.args.k (omega arith)
+overflow_sub-result c = fits c.number.result (omega arith)
 
 pub returns : goal.returns
-returns c = let h : c.args.k < 256 = omega arith in to_z-of_z (fits c.args.k h) ∙ less c.args.k h
+returns c =
+    let h : c.number.result < 256 = omega arith in
+    to_z-of_z (fits c.number.result h) ∙ less c.number.result h ∙ ap (λ (k : ℕ). neg_ℤ (pos k)) c.number.ensures

@@ -1,4 +1,4 @@
-use mathlib.Core.Path.{◌≡◌, refl}
+use mathlib.Core.Path.{◌≡◌}
 use mathlib.Core.Bool.{Bool, true, ◌&&◌}
 use lib.IntN.{ℤ, pos}
 use lib.Signed.{◌≤ℤ◌, le_z}
@@ -55,13 +55,10 @@ pub circle_stamp-requires : goal.circle_stamp-requires
 circle_stamp-requires c = (least (goal.at.circle_stamp-requires c).Then-r-begins, most (goal.at.circle_stamp-requires c).Then-r-begins)
 
 pub returns-then-r-begins : goal.returns-then-r-begins
-returns-then-r-begins d n =
+returns-then-r-begins d =
     let s = start (goal.at.returns-then-r-begins d).Then-r-begins in
     let a = s.args in
     let x = simp (to_z-of_z, s.ranges.cx, s.ranges.r) at (d.begins.ensures (and_right (le_z (pos 1) (r (goal.at.returns-then-r-begins d).Then-r-begins) && le_z (r (goal.at.returns-then-r-begins d).Then-r-begins) (pos 3)) (across (goal.at.returns-then-r-begins d).Then-r-begins) (radius (goal.at.returns-then-r-begins d).Then-r-begins))) in
     let y = simp (to_z-of_z, s.ranges.cy, s.ranges.r) at (d.begins-2.ensures (and_right ((le_z (pos 1) (r (goal.at.returns-then-r-begins d).Then-r-begins) && le_z (r (goal.at.returns-then-r-begins d).Then-r-begins) (pos 3)) && across (goal.at.returns-then-r-begins d).Then-r-begins) (down (goal.at.returns-then-r-begins d).Then-r-begins) d.if-r-begins.true)) in
     circle_stamped a.cx a.cy a.r a.left a.top a.w a.h d.circle_stamp.result
     (rw (to_z-of_z s.ranges.r) at (most (goal.at.returns-then-r-begins d).Then-r-begins)) x.0 x.1 y.0 y.1 (rw (to_z-of_z s.ranges.r) at d.circle_stamp.ensures)
-
-pub returns : goal.returns
-returns c n = absurd (n refl)

@@ -61,7 +61,7 @@ polygon_stamp-requires s =
     (in_eights (record { x = e.0; y = f.0 }) (record { x = e.1; y = f.1 }) (record { x = e.2; y = f.2 }) (record { x = e.3; y = f.3 }))
 
 pub returns : goal.returns
-returns d n =
+returns d =
     let a = d.args in
     let p = d.requires.corners in
     let g : PolygonStampSays (a.x0 -ℤ pos a.left) (a.y0 -ℤ pos a.top) (a.x1 -ℤ pos a.left) (a.y1 -ℤ pos a.top) (a.x2 -ℤ pos a.left) (a.y2 -ℤ pos a.top) (a.x3 -ℤ pos a.left) (a.y3 -ℤ pos a.top) d.polygon_stamp.result =

@@ -1,4 +1,3 @@
-use mathlib.Core.Path.{refl}
 use mir.Syntax.{w32}
 use Rattle.laws.specs.Bounds.{ldw, arg, rd}
 use Rattle.cover.specs.declared.Kind.TheVariants.{Quad}
@@ -23,9 +22,6 @@ framed_stamp-requires c =
     record { corners = (arg tt (ldw w32 tt b.0), arg tt (ldw w32 tt b.1.0), arg tt (ldw w32 tt b.1.1.0), arg tt (ldw w32 tt b.1.1.1.0), arg tt (ldw w32 tt b.1.1.1.1.0), arg tt (ldw w32 tt b.1.1.1.1.1.0), arg tt (ldw w32 tt b.1.1.1.1.1.1.0), arg tt (ldw w32 tt b.1.1.1.1.1.1.1.0)); window = c.requires.window; places = c.framed.ensures c.if-framed.true }
 
 pub returns-then-framed : goal.returns-then-framed
-returns-then-framed c n =
+returns-then-framed c =
     let b = bounded (goal.at.returns-then-framed c).Start in
-    rw (rd w32 tt b.0, rd w32 tt b.1.0, rd w32 tt b.1.1.0, rd w32 tt b.1.1.1.0, rd w32 tt b.1.1.1.1.0, rd w32 tt b.1.1.1.1.1.0, rd w32 tt b.1.1.1.1.1.1.0, rd w32 tt b.1.1.1.1.1.1.1.0) at (c.framed_stamp.ensures n)
-
-pub returns : goal.returns
-returns c n = absurd (n refl)
+    rw (rd w32 tt b.0, rd w32 tt b.1.0, rd w32 tt b.1.1.0, rd w32 tt b.1.1.1.0, rd w32 tt b.1.1.1.1.0, rd w32 tt b.1.1.1.1.1.0, rd w32 tt b.1.1.1.1.1.1.0, rd w32 tt b.1.1.1.1.1.1.1.0) at c.framed_stamp.ensures

@@ -39,20 +39,20 @@ first_column-left-requires c = let k = (asked (goal.at.first_column-left-require
 pub overflow_sub-bottom : goal.overflow_sub-bottom
 overflow_sub-bottom c = omega (arith, c.if-bottom-top.false)
 
-pub circle_stamp-bits-requires : goal.circle_stamp-bits-requires
-circle_stamp-bits-requires c = let k = (asked (goal.at.circle_stamp-bits-requires c).Else-bottom-top).stamp _ c.if-bottom-top-2.true in record { sizes = k.0; places = k.1.0; window = k.1.1 }
+pub circle_stamp-requires : goal.circle_stamp-requires
+circle_stamp-requires c = let k = (asked (goal.at.circle_stamp-requires c).Else-bottom-top).stamp _ c.if-bottom-top-2.true in record { sizes = k.0; places = k.1.0; window = k.1.1 }
 
 pub push_stamp-requires : goal.push_stamp-requires
 push_stamp-requires c =
-    let k = (asked (goal.at.push_stamp-requires c).Else-bottom-top).added _ _ c.if-bottom-top-2.true (c.circle_stamp-bits.ensures (λ q. omega (arith, c.if-bits.true, q))) in
+    let k = (asked (goal.at.push_stamp-requires c).Else-bottom-top).added _ _ c.if-bottom-top-2.true (rw c.in-Some.is at c.circle_stamp.ensures) in
     record { window = k.0; lent = k.1.0; pixels = k.1.1 }
 
-pub returns-then-bits : goal.returns-then-bits
-returns-then-bits c =
+pub returns-in-Some : goal.returns-in-Some
+returns-in-Some c =
     let a = c.args in
     simp (to_z-of_z, c.ranges.cx, c.ranges.cy, c.ranges.r) at (
     point_told _ a.request c.asked-opacity.result a.levels.now a.w a.h c.asked-opacity.ensures a.target.now a.canvas.now (c.usual_pictures.ensures c.if-usual_pictures.true)
-    c.unpaired-few.result c.finalize.result c.done.result (c.unpaired-few.ensures ∙ c.push_stamp.ensures ∙ stamp_is_points _ _ _ a.w a.h _ (c.circle_stamp-bits.ensures (λ q. omega (arith, c.if-bits.true, q))) a.target.now a.canvas.now) c.finalize.ensures c.done.ensures)
+    c.unpaired-few.result c.finalize.result c.done.result (c.unpaired-few.ensures ∙ c.push_stamp.ensures ∙ stamp_is_points _ _ _ a.w a.h _ (rw c.in-Some.is at c.circle_stamp.ensures) a.target.now a.canvas.now) c.finalize.ensures c.done.ensures)
 
 pub reached_sums-sums-requires : goal.reached_sums-sums-requires
 reached_sums-sums-requires c =

@@ -34,19 +34,19 @@ first_column-left-requires c = let k = (asked (goal.at.first_column-left-require
 pub overflow_sub-bottom : goal.overflow_sub-bottom
 overflow_sub-bottom c = omega (arith, c.if-bottom-top.false)
 
-pub stamp_of-bits-requires : goal.stamp_of-bits-requires
-stamp_of-bits-requires c = let k = (asked (goal.at.stamp_of-bits-requires c).Else-bottom-top).stamp _ c.if-bottom-top-2.true in record { sizes = k.0; places = k.1.0; window = k.1.1 }
+pub stamp_of-requires : goal.stamp_of-requires
+stamp_of-requires c = let k = (asked (goal.at.stamp_of-requires c).Else-bottom-top).stamp _ c.if-bottom-top-2.true in record { sizes = k.0; places = k.1.0; window = k.1.1 }
 
 pub add_stamp-few-requires : goal.add_stamp-few-requires
 add_stamp-few-requires c =
-    let k = (asked (goal.at.add_stamp-few-requires c).Else-bottom-top).added _ _ c.if-bottom-top-2.true (c.stamp_of-bits.ensures (λ q. omega (arith, c.if-bits.true, q))) in
+    let k = (asked (goal.at.add_stamp-few-requires c).Else-bottom-top).added _ _ c.if-bottom-top-2.true (rw c.in-Some.is at c.stamp_of.ensures) in
     record { window = k.0; rows = k.1 }
 
-pub returns-then-bits : goal.returns-then-bits
-returns-then-bits d =
+pub returns-in-Some : goal.returns-in-Some
+returns-in-Some d =
     let a = d.args in
     span_sums-told _ a.w a.h a.table.now (d.usual_table.ensures d.if-usual_table.true)
-    d.add_stamp-few.result (d.add_stamp-few.ensures ∙ stamp_is_spans _ _ _ a.w a.h _ (d.stamp_of-bits.ensures (λ q. omega (arith, d.if-bits.true, q))) a.table.now)
+    d.add_stamp-few.result (d.add_stamp-few.ensures ∙ stamp_is_spans _ _ _ a.w a.h _ (rw d.in-Some.is at d.stamp_of.ensures) a.table.now)
 
 pub reached_sums-gathered-requires : goal.reached_sums-gathered-requires
 reached_sums-gathered-requires c =

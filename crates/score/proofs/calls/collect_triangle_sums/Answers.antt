@@ -39,20 +39,20 @@ first_column-left-requires c = let k = (asked (goal.at.first_column-left-require
 pub overflow_sub-bottom : goal.overflow_sub-bottom
 overflow_sub-bottom c = omega (arith, c.if-bottom-top.false)
 
-pub triangle_stamp-bits-requires : goal.triangle_stamp-bits-requires
-triangle_stamp-bits-requires c = let k = (asked (goal.at.triangle_stamp-bits-requires c).Else-bottom-top).stamp _ c.if-bottom-top-2.true in record { sizes = k.0; places = k.1.0; window = k.1.1 }
+pub triangle_stamp-requires : goal.triangle_stamp-requires
+triangle_stamp-requires c = let k = (asked (goal.at.triangle_stamp-requires c).Else-bottom-top).stamp _ c.if-bottom-top-2.true in record { sizes = k.0; places = k.1.0; window = k.1.1 }
 
 pub push_stamp-requires : goal.push_stamp-requires
 push_stamp-requires c =
-    let k = (asked (goal.at.push_stamp-requires c).Else-bottom-top).added _ _ c.if-bottom-top-2.true (c.triangle_stamp-bits.ensures (λ q. omega (arith, c.if-bits.true, q))) in
+    let k = (asked (goal.at.push_stamp-requires c).Else-bottom-top).added _ _ c.if-bottom-top-2.true (rw c.in-Some.is at c.triangle_stamp.ensures) in
     record { window = k.0; lent = k.1.0; pixels = k.1.1 }
 
-pub returns-then-bits : goal.returns-then-bits
-returns-then-bits d =
+pub returns-in-Some : goal.returns-in-Some
+returns-in-Some d =
     let a = d.args in
     simp (to_z-of_z, d.ranges.x0, d.ranges.y0, d.ranges.x1, d.ranges.y1, d.ranges.x2, d.ranges.y2) at (
     point_sums-told _ a.w a.h a.target.now a.canvas.now (d.usual_pictures.ensures d.if-usual_pictures.true)
-    d.unpaired-few.result (d.unpaired-few.ensures ∙ d.push_stamp.ensures ∙ stamp_is_points _ _ _ a.w a.h _ (d.triangle_stamp-bits.ensures (λ q. omega (arith, d.if-bits.true, q))) a.target.now a.canvas.now))
+    d.unpaired-few.result (d.unpaired-few.ensures ∙ d.push_stamp.ensures ∙ stamp_is_points _ _ _ a.w a.h _ (rw d.in-Some.is at d.triangle_stamp.ensures) a.target.now a.canvas.now))
 
 pub reached_sums-sums-requires : goal.reached_sums-sums-requires
 reached_sums-sums-requires c =

@@ -34,19 +34,19 @@ first_column-left-requires c = let k = (asked (goal.at.first_column-left-require
 pub overflow_sub-bottom : goal.overflow_sub-bottom
 overflow_sub-bottom c = omega (arith, c.if-bottom-top.false)
 
-pub stamp_of-bits-requires : goal.stamp_of-bits-requires
-stamp_of-bits-requires c = let k = (asked (goal.at.stamp_of-bits-requires c).Else-bottom-top).stamp _ c.if-bottom-top-2.true in record { sizes = k.0; places = k.1.0; window = k.1.1 }
+pub stamp_of-requires : goal.stamp_of-requires
+stamp_of-requires c = let k = (asked (goal.at.stamp_of-requires c).Else-bottom-top).stamp _ c.if-bottom-top-2.true in record { sizes = k.0; places = k.1.0; window = k.1.1 }
 
 pub add_stamp-few-requires : goal.add_stamp-few-requires
 add_stamp-few-requires c =
-    let k = (asked (goal.at.add_stamp-few-requires c).Else-bottom-top).added _ _ c.if-bottom-top-2.true (c.stamp_of-bits.ensures (λ q. omega (arith, c.if-bits.true, q))) in
+    let k = (asked (goal.at.add_stamp-few-requires c).Else-bottom-top).added _ _ c.if-bottom-top-2.true (rw c.in-Some.is at c.stamp_of.ensures) in
     record { window = k.0; rows = k.1 }
 
-pub returns-then-bits : goal.returns-then-bits
-returns-then-bits c =
+pub returns-in-Some : goal.returns-in-Some
+returns-in-Some c =
     let a = c.args in
     span_told _ a.request c.asked-opacity.result a.levels.now a.w a.h c.asked-opacity.ensures a.table.now (c.usual_table.ensures c.if-usual_table.true)
-    c.add_stamp-few.result c.finalize.result c.done.result (c.add_stamp-few.ensures ∙ stamp_is_spans _ _ _ a.w a.h _ (c.stamp_of-bits.ensures (λ q. omega (arith, c.if-bits.true, q))) a.table.now) c.finalize.ensures c.done.ensures
+    c.add_stamp-few.result c.finalize.result c.done.result (c.add_stamp-few.ensures ∙ stamp_is_spans _ _ _ a.w a.h _ (rw c.in-Some.is at c.stamp_of.ensures) a.table.now) c.finalize.ensures c.done.ensures
 
 pub reached_sums-sums-requires : goal.reached_sums-sums-requires
 reached_sums-sums-requires c =
