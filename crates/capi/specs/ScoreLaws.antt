@@ -11,8 +11,7 @@ use Rattle.float.specs.Within.{within}
 use Rattle.cover.specs.declared.Kind.{Kind}
 use Rattle.cover.specs.Cover.{bad_places}
 use Rattle.grade.specs.declared.Score.{Score}
-use Rattle.grade.specs.declared.Scored.{Scored}
-use Rattle.grade.specs.declared.Scored.TheVariants.{Done, Refused}
+use Rattle.refusal.specs.Outcomes.{Outcome, Done, Refused}
 use Rattle.score.specs.declared.Request.TheVariants.{Opacity}
 use Rattle.grade.specs.AlphaSweep.{bad_levels}
 use Rattle.gather.specs.Gathered.{span_sums, point_sums}
@@ -54,7 +53,7 @@ told-by : (b : Bool) (number : ℕ) (s : Score) → scored_told (cond b (Done s)
 told-by true number s = refl
 told-by false number s = refl
 
-pub tells_score : (number : ℕ) (s : Score) (r : Scored) (a : SillbadgerAnswer) → a ≡ scored_told r → r ≡ scoring.answered number s → a ≡ answered number (score_told s)
+pub tells_score : (number : ℕ) (s : Score) (r : Outcome Score) (a : SillbadgerAnswer) → a ≡ scored_told r → r ≡ scoring.answered number s → a ≡ answered number (score_told s)
 tells_score number s r a e f = e ∙ ap scored_told f ∙ told-by (eqb number 0) number s
 
 -- ---- no shape

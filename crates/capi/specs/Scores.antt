@@ -8,8 +8,7 @@ use Rattle.cover.specs.declared.Kind.{Kind}
 use Rattle.cover.specs.declared.Kind.TheVariants.{Circle, Triangle, Quad}
 use Rattle.cover.specs.Cover.{bad_places}
 use Rattle.grade.specs.declared.Score.{Score}
-use Rattle.grade.specs.declared.Scored.{Scored}
-use Rattle.grade.specs.declared.Scored.TheVariants.{Done, Refused}
+use Rattle.refusal.specs.Outcomes.{Outcome, Done, Refused}
 use Rattle.score.specs.declared.Request.{Request}
 use Rattle.score.specs.declared.Request.TheVariants.{Levels}
 use Rattle.grade.specs.Finalize.{finalized}
@@ -22,7 +21,7 @@ use Rattle.capi.specs.Answers.{refused_by, shapeless, with_score, answered}
 abbrev pub score_told : Score → SillbadgerAnswer
 score_told s = with_score (refused_by 0) s.count s.opacity s.change s.red s.green s.blue
 
-abbrev pub scored_told : Scored → SillbadgerAnswer
+abbrev pub scored_told : Outcome Score → SillbadgerAnswer
 scored_told (Done s) = score_told s
 scored_told (Refused k) = refused_by k
 

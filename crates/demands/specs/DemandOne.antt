@@ -25,8 +25,7 @@ use Rattle.table.specs.Table.{build_refusal, update_refusal, BuildSays, UpdateCa
 use Rattle.score.specs.declared.Request.{Request}
 use Rattle.score.specs.declared.Request.TheVariants.{Levels}
 use Rattle.grade.specs.declared.Score.{Score}
-use Rattle.grade.specs.declared.Scored.{Scored}
-use Rattle.grade.specs.declared.Scored.TheVariants.{Done, Refused}
+use Rattle.refusal.specs.Outcomes.{Outcome, Done, Refused}
 use Rattle.grade.specs.Levels.{levels, levels_refusal, AlphaLevelsSays}
 use Rattle.grade.specs.Swept.{swept}
 use Rattle.grade.specs.Answered.{answered}
@@ -127,7 +126,7 @@ unfolding levels_refusal
 levels_refuse_as_tabled bits lent r after p = p.0
 
 -- "opacity: an opacity or level is not within 0..1 (a NaN isn't)"
-pub span_score_refuses_as_tabled : (kind : Kind) (request : Request) (lent : List Float) (w h : ℕ) (table : List Float) (r : Scored)
+pub span_score_refuses_as_tabled : (kind : Kind) (request : Request) (lent : List Float) (w h : ℕ) (table : List Float) (r : Outcome Score)
     → SpanScoreSays kind request lent w h table r
     → r
     ≡ answered
@@ -142,7 +141,7 @@ pub span_score_refuses_as_tabled : (kind : Kind) (request : Request) (lent : Lis
 unfolding span_refusal
 span_score_refuses_as_tabled kind request lent w h table r p = p
 
-pub point_score_refuses_as_tabled : (kind : Kind) (request : Request) (lent : List Float) (w h : ℕ) (target canvas : List Float) (r : Scored)
+pub point_score_refuses_as_tabled : (kind : Kind) (request : Request) (lent : List Float) (w h : ℕ) (target canvas : List Float) (r : Outcome Score)
     → PointScoreSays kind request lent w h target canvas r
     → r
     ≡ answered
@@ -157,7 +156,7 @@ pub point_score_refuses_as_tabled : (kind : Kind) (request : Request) (lent : Li
 unfolding point_refusal
 point_score_refuses_as_tabled kind request lent w h target canvas r p = p
 
-pub sweep_refuses_as_tabled : (s : ShapeSums) (lent : List Float) (n : ℕ) (r : Scored) → AlphaSweepSays s lent n r
+pub sweep_refuses_as_tabled : (s : ShapeSums) (lent : List Float) (n : ℕ) (r : Outcome Score) → AlphaSweepSays s lent n r
     → r ≡ answered (lowest (length_if (bad_levels lent) ∷ count_if (bad_count (Levels n)) ∷ opacity_if (bad_opacity (Levels n) lent) ∷ [])) (swept s lent n)
 unfolding sweep_refusal
 sweep_refuses_as_tabled s lent n r p = p

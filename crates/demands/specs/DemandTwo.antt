@@ -8,8 +8,7 @@ use Rattle.sums.specs.declared.ShapeSums.{ShapeSums}
 use Rattle.score.specs.declared.Request.{Request}
 use Rattle.score.specs.declared.Request.TheVariants.{Opacity, Levels}
 use Rattle.grade.specs.declared.Score.{Score}
-use Rattle.grade.specs.declared.Scored.{Scored}
-use Rattle.grade.specs.declared.Scored.TheVariants.{Done, Refused}
+use Rattle.refusal.specs.Outcomes.{Outcome, Done, Refused}
 use Rattle.grade.specs.Finalize.{no_score, finalized}
 use Rattle.grade.specs.Sweep.{Found, nowhere, at, best_of}
 use Rattle.grade.specs.Swept.{level, change_of, swept_at, swept}
@@ -48,14 +47,14 @@ score-count s (Opacity a) levels = finalized-count s a
 score-count s (Levels n) levels = swept-count s levels (best_of (change_of s levels) n)
 
 -- "a count not equal to the covered pixels": what a score that is not refused answers
-abbrev pub scored_count : Scored → ℕ
+abbrev pub scored_count : Outcome Score → ℕ
 scored_count (Done s) = s.count
 scored_count (Refused n) = 0
 
 done-count : (n : ℕ) (s : Score) → n ≡ 0 → scored_count (answered n s) ≡ s.count
 done-count n s z = ap (λ (b : Bool). scored_count (cond b (Done s) (Refused n))) (eq-eqb n 0 z)
 
-pub span_score_counts_covered_pixels : (kind : Kind) (request : Request) (levels : List Float) (w h : ℕ) (table : List Float) (r : Scored)
+pub span_score_counts_covered_pixels : (kind : Kind) (request : Request) (levels : List Float) (w h : ℕ) (table : List Float) (r : Outcome Score)
     → SpanScoreSays kind request levels w h table r → span_refusal kind request levels w h table ≡ 0 → scored_count r ≡ count kind w h
 span_score_counts_covered_pixels kind request levels w h table r p z =
     ap scored_count p
@@ -63,7 +62,7 @@ span_score_counts_covered_pixels kind request levels w h table r p z =
     ∙ score-count (span_sums kind w h table) request levels
     ∙ span_count_is_covered kind w h table
 
-pub point_score_counts_covered_pixels : (kind : Kind) (request : Request) (levels : List Float) (w h : ℕ) (target canvas : List Float) (r : Scored)
+pub point_score_counts_covered_pixels : (kind : Kind) (request : Request) (levels : List Float) (w h : ℕ) (target canvas : List Float) (r : Outcome Score)
     → PointScoreSays kind request levels w h target canvas r → point_refusal kind request levels w h target canvas ≡ 0 → scored_count r ≡ count kind w h
 point_score_counts_covered_pixels kind request levels w h target canvas r p z =
     ap scored_count p

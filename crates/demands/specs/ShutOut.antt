@@ -19,7 +19,8 @@ use Rattle.cover.specs.Figures.{cover_figures}
 use Rattle.table.specs.Layout.{of_canvas, entry}
 use Rattle.table.specs.Table.{bad_lengths, BuildSays}
 use Rattle.score.specs.declared.Request.{Request}
-use Rattle.grade.specs.declared.Scored.{Scored}
+use Rattle.grade.specs.declared.Score.{Score}
+use Rattle.refusal.specs.Outcomes.{Outcome}
 use Rattle.score.specs.Scoring.{span_refusal, SpanScoreSays}
 use Rattle.picture.specs.Painting.{blended}
 use Rattle.picture.specs.PaintingLaws.{painted-at}
@@ -63,7 +64,7 @@ unfolding paint_refusal lowest bad_size bad_picture bad_table bad_places bad_pla
 dot_taken = refl
 
 -- "one score for all shapes (demand 2)"
-pub scores_tell_shapes_apart : (request : Request) (levels table : List Float) (r s : Scored)
+pub scores_tell_shapes_apart : (request : Request) (levels table : List Float) (r s : Outcome Score)
     → SpanScoreSays (Circle (pos 0) (pos 0) (pos 1)) request levels 16 16 table r
     → SpanScoreSays (Circle (pos 0) (pos 0) (pos 0)) request levels 16 16 table s
     → span_refusal (Circle (pos 0) (pos 0) (pos 1)) request levels 16 16 table ≡ 0

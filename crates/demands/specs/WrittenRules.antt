@@ -35,8 +35,7 @@ use Rattle.float.specs.Within.{nought, one}
 use Rattle.float.specs.Clamped.{clamped}
 use Rattle.float.specs.Narrowed.{narrowed, NarrowBitsSays}
 use Rattle.sums.specs.Sums.{channel}
-use Rattle.grade.specs.declared.Scored.{Scored}
-use Rattle.grade.specs.declared.Scored.TheVariants.{Done, Refused}
+use Rattle.refusal.specs.Outcomes.{Outcome, Done, Refused}
 use Rattle.grade.specs.Finalize.{rest, count_of, colour_of, colour_at, before_at, after_at, wide_change, no_score, finalized}
 use Rattle.grade.specs.Levels.{levels, level_at, levels_refusal, AlphaLevelsSays}
 use Rattle.grade.specs.Answered.{answered}
@@ -103,16 +102,16 @@ module _ (w h : ℕ) (target canvas old : List Float) (ymin ymax : ℤ) (new : L
   update_keeps_other_rows s ch y x c l m o = untouched w h target canvas ymin ymax old new (p.done refl) s ch y x c l m o
 
 -- what is answered where nothing is refused
-scored_is : (n : ℕ) (s : Score) (r : Scored) → r ≡ answered n s → n ≡ 0 → r ≡ Done s
+scored_is : (n : ℕ) (s : Score) (r : Outcome Score) → r ≡ answered n s → n ≡ 0 → r ≡ Done s
 scored_is n s r p z = p ∙ ap (λ (b : Bool). cond b (Done s) (Refused n)) (eq-eqb n 0 z)
 
 -- "Score, in f64, with m = 1 - a worked out in f32 and both then widened": a span score that is not refused is this score of its sums, and so is a point score
-pub span_score_is_score_of_sums : (kind : Kind) (a : Float) (levels : List Float) (w h : ℕ) (table : List Float) (r : Scored)
+pub span_score_is_score_of_sums : (kind : Kind) (a : Float) (levels : List Float) (w h : ℕ) (table : List Float) (r : Outcome Score)
     → SpanScoreSays kind (Opacity a) levels w h table r → span_refusal kind (Opacity a) levels w h table ≡ 0 → r ≡ Done (finalized (span_sums kind w h table) a)
 unfolding score_at
 span_score_is_score_of_sums kind a levels w h table r p z = scored_is (span_refusal kind (Opacity a) levels w h table) (finalized (span_sums kind w h table) a) r p z
 
-pub point_score_is_score_of_sums : (kind : Kind) (a : Float) (levels : List Float) (w h : ℕ) (target canvas : List Float) (r : Scored)
+pub point_score_is_score_of_sums : (kind : Kind) (a : Float) (levels : List Float) (w h : ℕ) (target canvas : List Float) (r : Outcome Score)
     → PointScoreSays kind (Opacity a) levels w h target canvas r → point_refusal kind (Opacity a) levels w h target canvas ≡ 0
     → r ≡ Done (finalized (point_sums kind w h target canvas) a)
 unfolding score_at

@@ -4,7 +4,8 @@ use Rattle.std.specs.Prelude.{◌≡◌, Bool, not, ◌||◌, List, [], ◌∷�
 use Rattle.refusal.specs.Refusals.{lowest, length_if, count_if, opacity_if}
 use Rattle.float.specs.Within.{all_within}
 use Rattle.sums.specs.declared.ShapeSums.{ShapeSums}
-use Rattle.grade.specs.declared.Scored.{Scored}
+use Rattle.refusal.specs.Outcomes.{Outcome}
+use Rattle.grade.specs.declared.Score.{Score}
 use Rattle.grade.specs.Answered.{answered}
 use Rattle.grade.specs.Swept.{swept}
 
@@ -31,5 +32,5 @@ BadLevelCountSays n r = r ≡ bad_level_count n
 abbrev pub BadFirstLevelsSays : List Float → ℕ → Bool → Type 0
 BadFirstLevelsSays levels n r = r ≡ bad_first_levels levels n
 
-abbrev pub AlphaSweepSays : ShapeSums → List Float → ℕ → Scored → Type 0
+abbrev pub AlphaSweepSays : ShapeSums → List Float → ℕ → Outcome Score → Type 0
 AlphaSweepSays s levels n r = r ≡ answered (sweep_refusal levels n) (swept s levels n)

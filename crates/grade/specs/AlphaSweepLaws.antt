@@ -8,10 +8,11 @@ use Rattle.laws.specs.Bools.{or_left, or_right}
 use Rattle.refusal.specs.Refusals.{lowest, length_if, count_if, opacity_if}
 use Rattle.refusal.specs.RefusalLaws.{lowest_skip, lowest-take, lowest-none, lowest-empty}
 use Rattle.sums.specs.declared.ShapeSums.{ShapeSums}
-use Rattle.grade.specs.declared.Scored.{Scored}
+use Rattle.refusal.specs.Outcomes.{Outcome}
+use Rattle.grade.specs.declared.Score.{Score}
 use Rattle.grade.specs.AlphaSweep.{bad_levels, bad_level_count, bad_first_levels, sweep_refusal, BadLevelCountSays, BadFirstLevelsSays, AlphaSweepSays}
 
-pub AlphaSweepSays-unique : (s : ShapeSums) (levels : List Float) (n : ℕ) (r q : Scored) → AlphaSweepSays s levels n r → AlphaSweepSays s levels n q → r ≡ q
+pub AlphaSweepSays-unique : (s : ShapeSums) (levels : List Float) (n : ℕ) (r q : Outcome Score) → AlphaSweepSays s levels n r → AlphaSweepSays s levels n q → r ≡ q
 AlphaSweepSays-unique s levels n r q f g = f ∙ sym g
 
 pub BadLevelCountSays-unique : (n : ℕ) (r q : Bool) → BadLevelCountSays n r → BadLevelCountSays n q → r ≡ q

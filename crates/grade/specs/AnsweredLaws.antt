@@ -2,7 +2,7 @@
 use Rattle.std.specs.Prelude.{◌≡◌, Bool, cond, ℕ}
 use Rattle.std.proofs.Common.{sym, ◌∙◌, ap, eq-eqb, ne_eqb}
 use Rattle.grade.specs.declared.Score.{Score}
-use Rattle.grade.specs.declared.Scored.TheVariants.{Done, Refused}
+use Rattle.refusal.specs.Outcomes.{Done, Refused}
 use Rattle.grade.specs.Answered.{answered}
 
 pub answered-refused : (n k : ℕ) (s : Score) → k ≡ n → (k ≡ 0 → ⊥) → Refused k ≡ answered n s

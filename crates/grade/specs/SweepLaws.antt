@@ -1,5 +1,6 @@
 -- Laws: what is worked out from the first level on is the first level with the strictly smallest change, or none is below infinity.
-use Rattle.std.specs.Prelude.{◌≡◌, Bool, true, false, not, List, ◌⊎◌, T, Float}
+use Rattle.std.specs.Prelude.{◌≡◌, Bool, true, false, not, List, ◌⊎◌, T, Float, Option, Some, None, unwrap_or}
+use Rattle.std.proofs.lemmas.Option.{none-some}
 use Rattle.std.proofs.Math.Path.{refl}
 use Rattle.std.proofs.Common.{sym, ◌∙◌, ap, subst, inl, inr, ⊎_elim, arith}
 use Prim.Native.Nat.{ℕ, zero, suc, ◌+◌, ◌≤◌, ◌<◌}
@@ -148,24 +149,16 @@ swept-nothing s levels (suc k) z h = finalized-none s (level levels 0) z ∙ sym
     first_of_equals change d same finite zero = simp (same, finite)
     first_of_equals change d same finite (suc k) = stays change d same (suc k) (best_of change (suc k)) (first_of_equals change d same finite k)
 
--- ---- the code's answer: the best level's number, or n where there is none
-abbrev pub number_of : ℕ → Found → ℕ
-number_of n nowhere = n
-number_of n (at i) = i
+-- ---- the code's answer: the best level itself, if there is one
+abbrev pub level_found : List Float → Found → Option Float
+level_found levels nowhere = None
+level_found levels (at i) = Some (level levels i)
 
-module _ (s : ShapeSums) (levels : List Float) (n : ℕ) where
-  pub number-within : (f : Found) → BestAt (change_of s levels) n f → number_of n f ≤ n
-  number-within nowhere b = omega arith
-  number-within (at i) b = omega (arith, b.below)
+module _ (s : ShapeSums) (levels : List Float) where
+  pub swept_none : (f : Found) → None ≡ level_found levels f → no_score (level levels 0) s.count ≡ swept_at s levels f
+  swept_none nowhere e = refl
+  swept_none (at i) e = absurd (none-some (level levels i) e)
 
-  pub swept_none : (f : Found) → BestAt (change_of s levels) n f → number_of n f ≡ n → swept_at s levels f ≡ no_score (level levels 0) s.count
-  swept_none nowhere b e = refl
-  swept_none (at i) b e = absurd (omega (arith, b.below, e))
-
-  pub swept_by : (f : Found) (best : ℕ) (r : Score) → best ≡ number_of n f → (best ≡ n → ⊥) → r ≡ finalized s (level levels best) → r ≡ swept_at s levels f
-  swept_by nowhere best r e h g = absurd (h e)
-  swept_by (at i) best r e h g = g ∙ ap (λ (k : ℕ). finalized s (level levels k)) e
-
-  pub swept-some : (f : Found) → (number_of n f ≡ n → ⊥) → swept_at s levels f ≡ finalized s (level levels (number_of n f))
-  swept-some nowhere h = absurd (h refl)
-  swept-some (at i) h = refl
+  pub swept-some : (f : Found) (a : Float) (r : Score) → Some a ≡ level_found levels f → r ≡ finalized s a → r ≡ swept_at s levels f
+  swept-some nowhere a r e g = absurd (none-some a (sym e))
+  swept-some (at i) a r e g = g ∙ ap (λ (o : Option Float). finalized s (unwrap_or o a)) e

@@ -2,6 +2,9 @@
 ghost use Rattle.std.specs.Prelude.{◌≡◌, ◌≤◌, ◌<◌, ◌^◌, length};
 ghost use Rattle.laws.specs.Tab.{tab};
 ghost use Rattle.grade.specs.Levels.{level_of, level_at, AlphaLevelsSays};
+ghost use Rattle.refusal.specs.Outcomes.{number_of};
+
+use refusal::Refusal;
 
 fn level(n: u16, i: u16) -> f32
     requires { 1 ≤ n }
@@ -27,10 +30,8 @@ fn fill_levels(n: u16, levels: &mut [f32])
     requires { (1 ≤ n) × (length levels.old ≡ 64) }
     ensures { levels.new ≡ tab (level_at n) 64 }
 {
-    let mut i: u16 = 0;
-    while i < 64 {
+    for i in 0..64u16 {
         levels[i as usize] = level_at(n, i);
-        i += 1;
     }
 }
 
@@ -49,16 +50,16 @@ fn count_of(bits: u32) -> u16
     }
 }
 
-// Fills 64 lent places; 2 for another length, 3 for bits above 6.
-pub fn alpha_levels(bits: u32, levels: &mut [f32]) -> u8
-    ensures { AlphaLevelsSays bits levels.old result levels.new }
+// Fills 64 lent places; another length is refused, and bits above 6.
+pub fn alpha_levels(bits: u32, levels: &mut [f32]) -> Result<(), Refusal>
+    ensures { AlphaLevelsSays bits levels.old (number_of result) levels.new }
 {
     if levels.len() != 64 {
-        return refusal::LENGTH;
+        return Err(Refusal::Length);
     }
     if 6 < bits {
-        return refusal::COUNT;
+        return Err(Refusal::Count);
     }
     fill_levels(count_of(bits), levels);
-    0
+    Ok(())
 }

@@ -37,13 +37,6 @@ pub struct Score {
     pub change: f32,
 }
 
-// A score, or the number of the refusal.
-#[derive(Clone, Copy)]
-pub enum Scored {
-    Done(Score),
-    Refused(u8),
-}
-
 fn error_before(tt: f64, tc: f64, cc: f64) -> f64
     ensures { result ≡ error_before tt tc cc }
 {

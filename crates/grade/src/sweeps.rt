@@ -11,8 +11,10 @@ ghost use Rattle.grade.specs.AlphaSweep.{
   BadFirstLevelsSays,
   AlphaSweepSays,
 };
+ghost use Rattle.refusal.specs.Outcomes.{number_of, outcome};
 
-use crate::{Score, Scored};
+use crate::Score;
+use refusal::Refusal;
 use sums::ShapeSums;
 
 // Of a number the colour is a number, so that it is widened without a test.
@@ -78,7 +80,7 @@ fn change_from(s: ShapeSums, opacity: f32, before: f64) -> f32
 }
 
 // The first of the first n levels with the strictly smallest change. The lowest change so far starts at infinity, so
-// that a NaN is never taken. The score is worked out for the best level alone; n is no level.
+// that a NaN is never taken. The score is worked out for the best level alone.
 pub fn sweep(s: ShapeSums, levels: &[f32], n: usize) -> Score
     requires { (1 ≤ n) × (n ≤ length levels.now) }
     ensures { SweepSays s levels.now n result }
@@ -87,23 +89,20 @@ pub fn sweep(s: ShapeSums, levels: &[f32], n: usize) -> Score
         return crate::no_score(levels[0], 0);
     }
     let before = crate::all_before(s);
-    let mut best = n;
+    let mut best: Option<f32> = None;
     let mut lowest = 1.0 / 0.0;
-    let mut i = 0;
-    while i < n {
-        let change = change_from(s, levels[i], before);
+    for level in &levels[0..n] {
+        let change = change_from(s, *level, before);
         if change < lowest {
             lowest = change;
-            best = i;
+            best = Some(*level);
         }
-        i += 1;
     }
-    if best == n {
+    let Some(opacity) = best else {
         return crate::no_score(levels[0], s.count);
-    }
+    };
     let t = s.s_t;
     let c = s.s_c;
-    let opacity = levels[best];
     let m = crate::rest_of(opacity);
     crate::parts::finalize_from(
         s,
@@ -138,28 +137,25 @@ pub fn bad_first_levels(levels: &[f32], n: usize) -> bool
     !float::all_within(&levels[0..n])
 }
 
-fn sweep_refusal(levels: &[f32], n: usize) -> u8
-    ensures { result ≡ sweep_refusal levels.now n }
+fn tested(levels: &[f32], n: usize) -> Result<(), Refusal>
+    ensures { number_of result ≡ sweep_refusal levels.now n }
 {
     if levels.len() != 64 {
-        return refusal::LENGTH;
+        return Err(Refusal::Length);
     }
     if bad_level_count(n) {
-        return refusal::COUNT;
+        return Err(Refusal::Count);
     }
     if bad_first_levels(levels, n) {
-        return refusal::OPACITY;
+        return Err(Refusal::Opacity);
     }
-    0
+    Ok(())
 }
 
 // The best of the first n lent levels for sums that were collected before.
-pub fn alpha_sweep(s: ShapeSums, levels: &[f32], n: usize) -> Scored
-    ensures { AlphaSweepSays s levels.now n result }
+pub fn alpha_sweep(s: ShapeSums, levels: &[f32], n: usize) -> Result<Score, Refusal>
+    ensures { AlphaSweepSays s levels.now n (outcome result) }
 {
-    let no = sweep_refusal(levels, n);
-    if no != 0 {
-        return Scored::Refused(no);
-    }
-    Scored::Done(sweep(s, levels, n))
+    tested(levels, n)?;
+    Ok(sweep(s, levels, n))
 }

@@ -5,8 +5,7 @@ use Rattle.cover.specs.declared.Kind.{Kind}
 use Rattle.cover.specs.declared.Kind.TheVariants.{Circle, Triangle, Quad}
 use Rattle.score.specs.declared.Request.{Request}
 use Rattle.score.specs.declared.Request.TheVariants.{Opacity, Levels}
-use Rattle.grade.specs.declared.Scored.{Scored}
-use Rattle.grade.specs.declared.Scored.TheVariants.{Done, Refused}
+use Rattle.refusal.specs.Outcomes.{Outcome, Done, Refused}
 use Rattle.score.specs.declared.Collected.{Collected}
 use Rattle.grade.specs.Swept.{swept}
 use Rattle.grade.specs.Answered.{answered}
@@ -44,7 +43,7 @@ abbrev pub request_of : Bool → Float → ℕ → Request
 request_of single a n = cond single (Opacity a) (Levels n)
 
 -- a refusal has zeros
-abbrev pub answer_of : Scored → ProbedAnswer
+abbrev pub answer_of : Outcome Score → ProbedAnswer
 answer_of (Done r) =
     record { refused = 0; opacity = r.opacity; count = r.count; change = r.change; red = r.red; green = r.green; blue = r.blue }
 answer_of (Refused k) =

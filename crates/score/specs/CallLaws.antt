@@ -12,8 +12,7 @@ use Rattle.refusal.specs.Lengths.{bad_picture, bad_table}
 use Rattle.cover.specs.declared.Kind.{Kind}
 use Rattle.cover.specs.Cover.{bad_places}
 use Rattle.grade.specs.declared.Score.{Score}
-use Rattle.grade.specs.declared.Scored.{Scored}
-use Rattle.grade.specs.declared.Scored.TheVariants.{Done, Refused}
+use Rattle.refusal.specs.Outcomes.{Outcome, Done, Refused}
 use Rattle.grade.specs.Finalize.{finalized, no_score}
 use Rattle.grade.specs.FinalizeLaws.{finalized-none}
 use Rattle.grade.specs.Answered.{answered}
@@ -128,7 +127,7 @@ module _ (kind : Kind) (opacity : Float) (levels : List Float) (w h : ℕ) (u : 
 -- ---- a call at one opacity that passed its tests in one go: what its rows ask, and its answer
 module _ (request : Request) (opacity : Float) (levels : List Float) (number : Request → ℕ) (sums : ShapeSums) (asks : request ≡ Opacity opacity)
     (passes : number (Opacity opacity) ≡ 0) where
-  told : (q : ShapeSums) (s : Score) (a : Scored) → q ≡ sums → s ≡ finalized q opacity → a ≡ answered 0 s → a ≡ answered (number request) (score_at sums request levels)
+  told : (q : ShapeSums) (s : Score) (a : Outcome Score) → q ≡ sums → s ≡ finalized q opacity → a ≡ answered 0 s → a ≡ answered (number request) (score_at sums request levels)
   unfolding score_at
   told q s a z g e =
       e ∙ ap Done (g ∙ ap (λ (u : ShapeSums). finalized u opacity) z)
@@ -142,7 +141,7 @@ usual_rows kind opacity n w h u = (sized w h u.size, u.places)
 
 module _ (kind : Kind) (request : Request) (opacity : Float) (levels : List Float) (w h : ℕ) (asks : within opacity ≡ true → request ≡ Opacity opacity) where
   module _ (table : List Float) (f : Usual kind opacity (length levels) w h × (bad_table w h (length table) ≡ false)) where
-    pub span_told : (q : ShapeSums) (s : Score) (a : Scored) → q ≡ span_sums kind w h table → s ≡ finalized q opacity → a ≡ answered 0 s
+    pub span_told : (q : ShapeSums) (s : Score) (a : Outcome Score) → q ≡ span_sums kind w h table → s ≡ finalized q opacity → a ≡ answered 0 s
         → SpanScoreSays kind request levels w h table a
     span_told =
         told request opacity levels (λ u. span_refusal kind u levels w h table) (span_sums kind w h table) (asks f.0.opacity_in)
@@ -157,7 +156,7 @@ module _ (kind : Kind) (request : Request) (opacity : Float) (levels : List Floa
 
   module _ (target canvas : List Float)
       (f : Usual kind opacity (length levels) w h × (bad_picture w h (length target) || bad_picture w h (length canvas) ≡ false)) where
-    pub point_told : (q : ShapeSums) (s : Score) (a : Scored) → q ≡ point_sums kind w h target canvas → s ≡ finalized q opacity → a ≡ answered 0 s
+    pub point_told : (q : ShapeSums) (s : Score) (a : Outcome Score) → q ≡ point_sums kind w h target canvas → s ≡ finalized q opacity → a ≡ answered 0 s
         → PointScoreSays kind request levels w h target canvas a
     point_told =
         told request opacity levels (λ u. point_refusal kind u levels w h target canvas) (point_sums kind w h target canvas) (asks f.0.opacity_in)

@@ -10,7 +10,7 @@ use Rattle.sums.specs.declared.ShapeSums.{ShapeSums}
 use Rattle.sums.specs.Sums.{no_sums}
 use Rattle.gather.specs.Gathered.{span_sums, point_sums}
 use Rattle.grade.specs.declared.Score.{Score}
-use Rattle.grade.specs.declared.Scored.{Scored}
+use Rattle.refusal.specs.Outcomes.{Outcome}
 use Rattle.grade.specs.Finalize.{finalized}
 use Rattle.grade.specs.Swept.{swept}
 use Rattle.grade.specs.Answered.{answered}
@@ -75,19 +75,19 @@ CollectSpanSumsSays kind w h table r = r ≡ collected (span_sums_refusal kind w
 abbrev pub CollectPointSumsSays : Kind → ℕ → ℕ → List Float → List Float → Collected → Type 0
 CollectPointSumsSays kind w h target canvas r = r ≡ collected (point_sums_refusal kind w h target canvas) (point_sums kind w h target canvas)
 
-abbrev pub SpanScoreSays : Kind → Request → List Float → ℕ → ℕ → List Float → Scored → Type 0
+abbrev pub SpanScoreSays : Kind → Request → List Float → ℕ → ℕ → List Float → Outcome Score → Type 0
 SpanScoreSays kind request levels w h table r =
     r ≡ answered (span_refusal kind request levels w h table) (score_at (span_sums kind w h table) request levels)
 
-abbrev pub PointScoreSays : Kind → Request → List Float → ℕ → ℕ → List Float → List Float → Scored → Type 0
+abbrev pub PointScoreSays : Kind → Request → List Float → ℕ → ℕ → List Float → List Float → Outcome Score → Type 0
 PointScoreSays kind request levels w h target canvas r =
     r ≡ answered (point_refusal kind request levels w h target canvas) (score_at (point_sums kind w h target canvas) request levels)
 
 -- by points there is a circle and a triangle, each on plain numbers
-abbrev pub CirclePointScoreSays : ℤ → ℤ → ℤ → Request → List Float → ℕ → ℕ → List Float → List Float → Scored → Type 0
+abbrev pub CirclePointScoreSays : ℤ → ℤ → ℤ → Request → List Float → ℕ → ℕ → List Float → List Float → Outcome Score → Type 0
 CirclePointScoreSays cx cy r = PointScoreSays (Circle cx cy r)
 
-abbrev pub TrianglePointScoreSays : ℤ → ℤ → ℤ → ℤ → ℤ → ℤ → Request → List Float → ℕ → ℕ → List Float → List Float → Scored → Type 0
+abbrev pub TrianglePointScoreSays : ℤ → ℤ → ℤ → ℤ → ℤ → ℤ → Request → List Float → ℕ → ℕ → List Float → List Float → Outcome Score → Type 0
 TrianglePointScoreSays x0 y0 x1 y1 x2 y2 = PointScoreSays (Triangle x0 y0 x1 y1 x2 y2)
 
 abbrev pub CollectCircleSumsSays : ℤ → ℤ → ℤ → ℕ → ℕ → List Float → List Float → Collected → Type 0

@@ -3,7 +3,8 @@ use Rattle.std.specs.Prelude.{◌≡◌, List, ℕ, ℤ, Float}
 use Rattle.std.proofs.Common.{sym, ◌∙◌}
 use Rattle.cover.specs.declared.Kind.{Kind}
 use Rattle.cover.specs.declared.Kind.TheVariants.{Circle, Triangle}
-use Rattle.grade.specs.declared.Scored.{Scored}
+use Rattle.grade.specs.declared.Score.{Score}
+use Rattle.refusal.specs.Outcomes.{Outcome}
 use Rattle.score.specs.declared.Collected.{Collected}
 use Rattle.score.specs.declared.Request.{Request}
 use Rattle.score.specs.Scoring.{CollectSpanSumsSays, CollectPointSumsSays, SpanScoreSays, PointScoreSays, CirclePointScoreSays, TrianglePointScoreSays, CollectCircleSumsSays, CollectTriangleSumsSays}
@@ -15,19 +16,19 @@ pub CollectPointSumsSays-unique : (kind : Kind) (w h : ℕ) (target canvas : Lis
     → CollectPointSumsSays kind w h target canvas r → CollectPointSumsSays kind w h target canvas q → r ≡ q
 CollectPointSumsSays-unique kind w h target canvas r q f g = f ∙ sym g
 
-pub SpanScoreSays-unique : (kind : Kind) (request : Request) (levels : List Float) (w h : ℕ) (table : List Float) (r q : Scored)
+pub SpanScoreSays-unique : (kind : Kind) (request : Request) (levels : List Float) (w h : ℕ) (table : List Float) (r q : Outcome Score)
     → SpanScoreSays kind request levels w h table r → SpanScoreSays kind request levels w h table q → r ≡ q
 SpanScoreSays-unique kind request levels w h table r q f g = f ∙ sym g
 
-pub PointScoreSays-unique : (kind : Kind) (request : Request) (levels : List Float) (w h : ℕ) (target canvas : List Float) (r q : Scored)
+pub PointScoreSays-unique : (kind : Kind) (request : Request) (levels : List Float) (w h : ℕ) (target canvas : List Float) (r q : Outcome Score)
     → PointScoreSays kind request levels w h target canvas r → PointScoreSays kind request levels w h target canvas q → r ≡ q
 PointScoreSays-unique kind request levels w h target canvas r q f g = f ∙ sym g
 
-pub CirclePointScoreSays-unique : (x y z : ℤ) (request : Request) (levels : List Float) (w h : ℕ) (target canvas : List Float) (r q : Scored)
+pub CirclePointScoreSays-unique : (x y z : ℤ) (request : Request) (levels : List Float) (w h : ℕ) (target canvas : List Float) (r q : Outcome Score)
     → CirclePointScoreSays x y z request levels w h target canvas r → CirclePointScoreSays x y z request levels w h target canvas q → r ≡ q
 CirclePointScoreSays-unique x y z = PointScoreSays-unique (Circle x y z)
 
-pub TrianglePointScoreSays-unique : (a b c d e f : ℤ) (request : Request) (levels : List Float) (w h : ℕ) (target canvas : List Float) (r q : Scored)
+pub TrianglePointScoreSays-unique : (a b c d e f : ℤ) (request : Request) (levels : List Float) (w h : ℕ) (target canvas : List Float) (r q : Outcome Score)
     → TrianglePointScoreSays a b c d e f request levels w h target canvas r → TrianglePointScoreSays a b c d e f request levels w h target canvas q → r ≡ q
 TrianglePointScoreSays-unique a b c d e f = PointScoreSays-unique (Triangle a b c d e f)
 

@@ -14,10 +14,12 @@ ghost use Rattle.score.specs.Scoring.{
   CirclePointScoreSays,
   TrianglePointScoreSays,
 };
+ghost use Rattle.refusal.specs.Outcomes.{outcome};
 
 use crate::{Collected, Request};
 use cover::Kind;
-use grade::{Score, Scored};
+use grade::Score;
+use refusal::Refusal;
 use sums::ShapeSums;
 
 fn score_at(s: ShapeSums, request: Request, levels: &[f32]) -> Score
@@ -31,10 +33,10 @@ fn score_at(s: ShapeSums, request: Request, levels: &[f32]) -> Score
 }
 
 // Number by number, so that the answer is not copied as a block of what was just written in parts.
-fn done(s: Score) -> Scored
-    ensures { result ≡ answered 0 s }
+fn done(s: Score) -> Result<Score, Refusal>
+    ensures { outcome result ≡ answered 0 s }
 {
-    Scored::Done(Score {
+    Ok(Score {
         opacity: s.opacity,
         count: s.count,
         change: s.change,
@@ -53,8 +55,8 @@ pub fn span_score(
     w: usize,
     h: usize,
     table: &[f64],
-) -> Scored
-    ensures { SpanScoreSays kind request levels.now w h table.now result }
+) -> Result<Score, Refusal>
+    ensures { SpanScoreSays kind request levels.now w h table.now (outcome result) }
 {
     let opacity = crate::tests::asked(request);
     if crate::tests::usual_table(kind, opacity, levels.len(), w, h, table.len()) {
@@ -62,7 +64,7 @@ pub fn span_score(
         let top = rows.top;
         let bottom = rows.bottom;
         if bottom <= top {
-            return Scored::Done(grade::no_score(opacity, 0));
+            return Ok(grade::no_score(opacity, 0));
         }
         let left = cover::stamps::first_column(kind, w);
         if (bottom - top <= 8) & (left < w) {
@@ -85,15 +87,12 @@ fn tested_span_score(
     w: usize,
     h: usize,
     table: &[f64],
-) -> Scored
-    ensures { SpanScoreSays kind request levels.now w h table.now result }
+) -> Result<Score, Refusal>
+    ensures { SpanScoreSays kind request levels.now w h table.now (outcome result) }
 {
-    let no = crate::tests::span_refusal(kind, request, levels, w, h, table);
-    if no != 0 {
-        return Scored::Refused(no);
-    }
+    crate::tests::span_tested(kind, request, levels, w, h, table)?;
     let sums = gather::spans::span_sums(kind, w, h, table);
-    Scored::Done(score_at(sums, request, levels))
+    Ok(score_at(sums, request, levels))
 }
 
 fn tested_point_score(
@@ -104,15 +103,12 @@ fn tested_point_score(
     h: usize,
     target: &[f32],
     canvas: &[f32],
-) -> Scored
-    ensures { PointScoreSays kind request levels.now w h target.now canvas.now result }
+) -> Result<Score, Refusal>
+    ensures { PointScoreSays kind request levels.now w h target.now canvas.now (outcome result) }
 {
-    let no = crate::tests::point_refusal(kind, request, levels, w, h, target, canvas);
-    if no != 0 {
-        return Scored::Refused(no);
-    }
+    crate::tests::point_tested(kind, request, levels, w, h, target, canvas)?;
     let sums = gather::points::point_sums(kind, w, h, target, canvas);
-    Scored::Done(score_at(sums, request, levels))
+    Ok(score_at(sums, request, levels))
 }
 
 // The score of a circle from the two pictures, pixel by pixel. It takes plain numbers, so that no quad can be asked.
@@ -126,8 +122,8 @@ pub fn circle_point_score(
     h: usize,
     target: &[f32],
     canvas: &[f32],
-) -> Scored
-    ensures { CirclePointScoreSays cx cy r request levels.now w h target.now canvas.now result }
+) -> Result<Score, Refusal>
+    ensures { CirclePointScoreSays cx cy r request levels.now w h target.now canvas.now (outcome result) }
 {
     let kind = Kind::Circle(cx, cy, r);
     let opacity = crate::tests::asked(request);
@@ -144,7 +140,7 @@ pub fn circle_point_score(
         let top = rows.top;
         let bottom = rows.bottom;
         if bottom <= top {
-            return Scored::Done(grade::no_score(opacity, 0));
+            return Ok(grade::no_score(opacity, 0));
         }
         let left = cover::stamps::first_column(kind, w);
         if (bottom - top <= 8) & (left < w) {
@@ -175,8 +171,8 @@ pub fn triangle_point_score(
     h: usize,
     target: &[f32],
     canvas: &[f32],
-) -> Scored
-    ensures { TrianglePointScoreSays x0 y0 x1 y1 x2 y2 request levels.now w h target.now canvas.now result }
+) -> Result<Score, Refusal>
+    ensures { TrianglePointScoreSays x0 y0 x1 y1 x2 y2 request levels.now w h target.now canvas.now (outcome result) }
 {
     let kind = Kind::Triangle(x0, y0, x1, y1, x2, y2);
     let opacity = crate::tests::asked(request);
@@ -193,7 +189,7 @@ pub fn triangle_point_score(
         let top = rows.top;
         let bottom = rows.bottom;
         if bottom <= top {
-            return Scored::Done(grade::no_score(opacity, 0));
+            return Ok(grade::no_score(opacity, 0));
         }
         let left = cover::stamps::first_column(kind, w);
         if (bottom - top <= 8) & (left < w) {
@@ -247,9 +243,8 @@ pub fn collect_span_sums(kind: Kind, w: usize, h: usize, table: &[f64]) -> Colle
 fn tested_span_sums(kind: Kind, w: usize, h: usize, table: &[f64]) -> Collected
     ensures { CollectSpanSumsSays kind w h table.now result }
 {
-    let no = crate::tests::span_sums_refusal(kind, w, h, table);
-    if no != 0 {
-        return crate::no_sums(no);
+    if let Err(no) = crate::tests::span_sums_tested(kind, w, h, table) {
+        return crate::no_sums(no.number());
     }
     let sums = gather::spans::span_sums(kind, w, h, table);
     Collected {
@@ -261,9 +256,8 @@ fn tested_span_sums(kind: Kind, w: usize, h: usize, table: &[f64]) -> Collected
 fn tested_point_sums(kind: Kind, w: usize, h: usize, target: &[f32], canvas: &[f32]) -> Collected
     ensures { CollectPointSumsSays kind w h target.now canvas.now result }
 {
-    let no = crate::tests::point_sums_refusal(kind, w, h, target, canvas);
-    if no != 0 {
-        return crate::no_sums(no);
+    if let Err(no) = crate::tests::point_sums_tested(kind, w, h, target, canvas) {
+        return crate::no_sums(no.number());
     }
     let sums = gather::points::point_sums(kind, w, h, target, canvas);
     Collected {

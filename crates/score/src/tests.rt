@@ -14,9 +14,11 @@ ghost use Rattle.score.specs.Scoring.{
   span_sums_refusal,
   point_sums_refusal,
 };
+ghost use Rattle.refusal.specs.Outcomes.{number_of};
 
 use crate::Request;
 use cover::Kind;
+use refusal::Refusal;
 
 fn bad_count(request: Request) -> bool
     ensures { result ≡ bad_count request }
@@ -38,20 +40,20 @@ fn bad_opacity(request: Request, levels: &[f32]) -> bool
 }
 
 // The tests from 3 on.
-fn request_refusal(kind: Kind, request: Request, levels: &[f32]) -> u8
+fn request_tested(kind: Kind, request: Request, levels: &[f32]) -> Result<(), Refusal>
     requires { length levels.now ≡ 64 }
-    ensures { result ≡ lowest (count_if (bad_count request) ∷ place_if (bad_places kind) ∷ opacity_if (bad_opacity request levels.now) ∷ []) }
+    ensures { number_of result ≡ lowest (count_if (bad_count request) ∷ place_if (bad_places kind) ∷ opacity_if (bad_opacity request levels.now) ∷ []) }
 {
     if bad_count(request) {
-        return refusal::COUNT;
+        return Err(Refusal::Count);
     }
     if cover::bad_places(kind) {
-        return refusal::PLACE; // goes before the opacity
+        return Err(Refusal::Place); // goes before the opacity
     }
     if bad_opacity(request, levels) {
-        return refusal::OPACITY;
+        return Err(Refusal::Opacity);
     }
-    0
+    Ok(())
 }
 
 // One of the two pictures has another length. Sizes are tested before.
@@ -65,29 +67,29 @@ fn bad_pictures(w: usize, h: usize, target: usize, canvas: usize) -> bool
     refusal::bad_picture(w, h, canvas)
 }
 
-pub(crate) fn span_refusal(
+pub(crate) fn span_tested(
     kind: Kind,
     request: Request,
     levels: &[f32],
     w: usize,
     h: usize,
     table: &[f64],
-) -> u8
-    ensures { result ≡ span_refusal kind request levels.now w h table.now }
+) -> Result<(), Refusal>
+    ensures { number_of result ≡ span_refusal kind request levels.now w h table.now }
 {
     if refusal::bad_size(w, h) {
-        return refusal::SIZE;
+        return Err(Refusal::Size);
     }
     if levels.len() != 64 {
-        return refusal::LENGTH;
+        return Err(Refusal::Length);
     }
     if refusal::bad_table(w, h, table.len()) {
-        return refusal::LENGTH;
+        return Err(Refusal::Length);
     }
-    request_refusal(kind, request, levels)
+    request_tested(kind, request, levels)
 }
 
-pub(crate) fn point_refusal(
+pub(crate) fn point_tested(
     kind: Kind,
     request: Request,
     levels: &[f32],
@@ -95,55 +97,55 @@ pub(crate) fn point_refusal(
     h: usize,
     target: &[f32],
     canvas: &[f32],
-) -> u8
-    ensures { result ≡ point_refusal kind request levels.now w h target.now canvas.now }
+) -> Result<(), Refusal>
+    ensures { number_of result ≡ point_refusal kind request levels.now w h target.now canvas.now }
 {
     if refusal::bad_size(w, h) {
-        return refusal::SIZE;
+        return Err(Refusal::Size);
     }
     if levels.len() != 64 {
-        return refusal::LENGTH;
+        return Err(Refusal::Length);
     }
     if bad_pictures(w, h, target.len(), canvas.len()) {
-        return refusal::LENGTH;
+        return Err(Refusal::Length);
     }
-    request_refusal(kind, request, levels)
+    request_tested(kind, request, levels)
 }
 
-pub(crate) fn span_sums_refusal(kind: Kind, w: usize, h: usize, table: &[f64]) -> u8
-    ensures { result ≡ span_sums_refusal kind w h table.now }
+pub(crate) fn span_sums_tested(kind: Kind, w: usize, h: usize, table: &[f64]) -> Result<(), Refusal>
+    ensures { number_of result ≡ span_sums_refusal kind w h table.now }
 {
     if refusal::bad_size(w, h) {
-        return refusal::SIZE;
+        return Err(Refusal::Size);
     }
     if refusal::bad_table(w, h, table.len()) {
-        return refusal::LENGTH;
+        return Err(Refusal::Length);
     }
     if cover::bad_places(kind) {
-        return refusal::PLACE;
+        return Err(Refusal::Place);
     }
-    0
+    Ok(())
 }
 
-pub(crate) fn point_sums_refusal(
+pub(crate) fn point_sums_tested(
     kind: Kind,
     w: usize,
     h: usize,
     target: &[f32],
     canvas: &[f32],
-) -> u8
-    ensures { result ≡ point_sums_refusal kind w h target.now canvas.now }
+) -> Result<(), Refusal>
+    ensures { number_of result ≡ point_sums_refusal kind w h target.now canvas.now }
 {
     if refusal::bad_size(w, h) {
-        return refusal::SIZE;
+        return Err(Refusal::Size);
     }
     if bad_pictures(w, h, target.len(), canvas.len()) {
-        return refusal::LENGTH;
+        return Err(Refusal::Length);
     }
     if cover::bad_places(kind) {
-        return refusal::PLACE;
+        return Err(Refusal::Place);
     }
-    0
+    Ok(())
 }
 
 // The one opacity that is asked for; for levels a NaN, which passes no test.

@@ -4,7 +4,8 @@ use Rattle.refusal.specs.Refusals.{lowest, place_if, opacity_if}
 use Rattle.float.specs.Within.{within, all_within}
 use Rattle.cover.specs.declared.Kind.{Kind}
 use Rattle.cover.specs.Cover.{bad_places}
-use Rattle.grade.specs.declared.Scored.{Scored}
+use Rattle.grade.specs.declared.Score.{Score}
+use Rattle.refusal.specs.Outcomes.{Outcome}
 use Rattle.grade.specs.Finalize.{finalized}
 use Rattle.grade.specs.Answered.{answered}
 use Rattle.gather.specs.Gathered.{span_sums}
@@ -61,7 +62,7 @@ stepped s a = record { state = s; answer = a }
 abbrev pub shape_refusal : State → Kind → Float → ℕ
 shape_refusal s kind opacity = cond (eqb s.w 0) malformed (lowest (place_if (bad_places kind) ∷ opacity_if (not (within opacity)) ∷ []))
 
-abbrev pub weighed_of : State → Kind → Float → List Float → Scored
+abbrev pub weighed_of : State → Kind → Float → List Float → Outcome Score
 weighed_of s kind opacity table = answered (shape_refusal s kind opacity) (finalized (span_sums kind s.w s.h (take (table_size s) table)) opacity)
 
 -- ---- the promises

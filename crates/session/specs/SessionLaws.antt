@@ -16,8 +16,7 @@ use Rattle.float.specs.Within.{nought, within, all_within}
 use Rattle.cover.specs.declared.Kind.{Kind}
 use Rattle.cover.specs.Cover.{bad_places}
 use Rattle.grade.specs.declared.Score.{Score}
-use Rattle.grade.specs.declared.Scored as scores
-use Rattle.grade.specs.declared.Scored.TheVariants as scored
+use Rattle.refusal.specs.Outcomes as scored
 use Rattle.grade.specs.Finalize.{finalized}
 use Rattle.grade.specs.Answered.{answered}
 use Rattle.gather.specs.Gathered.{span_sums}
@@ -267,14 +266,14 @@ module _ (y : ℕ) (pixels : List ℕ) where
 
 -- ---- 03 and 04
 -- what an answer of the score tells
-pub done_of : (n : ℕ) (v sc : Score) (r : scores.Scored) → r ≡ answered n v → r ≡ scored.Done sc → (n ≡ 0) × (sc ≡ v)
+pub done_of : (n : ℕ) (v sc : Score) (r : scored.Outcome Score) → r ≡ answered n v → r ≡ scored.Done sc → (n ≡ 0) × (sc ≡ v)
 done_of n v sc r e f = by (eqb n 0) refl (sym f ∙ e)
   where
     by : (b : Bool) → eqb n 0 ≡ b → scored.Done sc ≡ cond b (scored.Done v) (scored.Refused n) → (n ≡ 0) × (sc ≡ v)
     by true g k = (eqb-true n 0 g, cc)
     by false g k = let z : ◌≡◌ {A = ℕ} 0 1 = cc in absurd (omega arith)
 
-pub refused_of : (n m : ℕ) (v : Score) (r : scores.Scored) → r ≡ answered n v → r ≡ scored.Refused m → (n ≡ m) × (m ≡ 0 → ⊥)
+pub refused_of : (n m : ℕ) (v : Score) (r : scored.Outcome Score) → r ≡ answered n v → r ≡ scored.Refused m → (n ≡ m) × (m ≡ 0 → ⊥)
 refused_of n m v r e f = by (eqb n 0) refl (sym f ∙ e)
   where
     by : (b : Bool) → eqb n 0 ≡ b → scored.Refused m ≡ cond b (scored.Done v) (scored.Refused n) → (n ≡ m) × (m ≡ 0 → ⊥)
@@ -334,14 +333,14 @@ module _ (kind : Kind) (bits : ℕ) where
     pub paint-number : refusal (session_of s t c) (paint kind bits) ≡ shape_refusal s kind a
     paint-number = number_of (paint kind bits) paint-first (paint-tests s.w s.h s.painted (take (picture_size s) t) (take (picture_size s) c))
 
-    pub shape_refused : {q : Request} {m : ℕ} {r : scores.Scored} → refusal (session_of s t c) q ≡ shape_refusal s kind a → r ≡ weighed_of s kind a tab → r ≡ scored.Refused m
+    pub shape_refused : {q : Request} {m : ℕ} {r : scored.Outcome Score} → refusal (session_of s t c) q ≡ shape_refusal s kind a → r ≡ weighed_of s kind a tab → r ≡ scored.Refused m
         → StepTakes s q t c tab (stepped s (Refused m)) t c tab
     shape_refused {q} {m} {r} f e g =
         let z = refused_of (shape_refusal s kind a) m (finalized (span_sums kind s.w s.h (take (table_size s) tab)) a) r e g in
         refuse s q t c tab hold m (f ∙ z.0) z.1
 
     -- a shape that has a score: there is a picture, and the shape has its places
-    module _ {sc : Score} {r : scores.Scored} (e : r ≡ weighed_of s kind a tab) (f : r ≡ scored.Done sc) where
+    module _ {sc : Score} {r : scored.Outcome Score} (e : r ≡ weighed_of s kind a tab) (f : r ≡ scored.Done sc) where
       weighed_as : (shape_refusal s kind a ≡ 0) × (sc ≡ finalized (span_sums kind s.w s.h (take (table_size s) tab)) a)
       weighed_as = done_of (shape_refusal s kind a) (finalized (span_sums kind s.w s.h (take (table_size s) tab)) a) sc r e f
 
@@ -360,7 +359,7 @@ module _ (kind : Kind) (bits : ℕ) where
         ∙ ap (finalized (span_sums kind s.w s.h (take (table_size s) tab))) ea
         ∙ ap (λ z. finalized z (of_bits binary32 bits)) (table-sums kind s.w s.h (take (picture_size s) t) (take (picture_size s) c) (take (table_size s) tab) (sheet_of s t c tab hold d).0.sums)
 
-    pub score_done : {sc : Score} {v : Values} {r : scores.Scored} → r ≡ weighed_of s kind a tab
+    pub score_done : {sc : Score} {v : Values} {r : scored.Outcome Score} → r ≡ weighed_of s kind a tab
         → r ≡ scored.Done sc → v ≡ values_of sc → StepTakes s (score kind bits) t c tab (stepped s (Scored v)) t c tab
     score_done {sc} e f k =
         let z = weighed_as e f in
@@ -393,7 +392,7 @@ module _ (kind : Kind) (bits : ℕ) where
         ap (λ (l : Score). painted kind a l.red l.green l.blue s.w s.h (take (picture_size s) c)) i
         ∙ ap (λ (l : Float). painted kind l (score_of kind bits s.w s.h (take (picture_size s) t) (take (picture_size s) c)).red (score_of kind bits s.w s.h (take (picture_size s) t) (take (picture_size s) c)).green (score_of kind bits s.w s.h (take (picture_size s) t) (take (picture_size s) c)).blue s.w s.h (take (picture_size s) c)) ea
 
-    pub paint_done : {sc : Score} {v : Values} {r : scores.Scored} {x z : List Float} {total : Float} {n : ℕ} → r ≡ weighed_of s kind a tab
+    pub paint_done : {sc : Score} {v : Values} {r : scored.Outcome Score} {x z : List Float} {total : Float} {n : ℕ} → r ≡ weighed_of s kind a tab
         → r ≡ scored.Done sc → v ≡ values_of sc → x ≡ painted kind a sc.red sc.green sc.blue s.w s.h (take (picture_size s) c)
         → Sheet s.w s.h (take (picture_size s) t) x z → total ≡ total_of (take (picture_size s) t) x → n ≡ to_bits binary64 total
         → StepTakes s (paint kind bits) t c tab (stepped (record { w = s.w; h = s.h; painted = true }) (Painted v n)) t (x ++ drop (picture_size s) c) (z ++ drop (table_size s) tab)

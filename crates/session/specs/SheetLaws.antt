@@ -39,7 +39,8 @@ use Rattle.table.specs.Table.{Table, Updated, redone, bad_lengths, update_refusa
 use Rattle.table.specs.TestLaws.{build_after}
 use Rattle.table.specs.TableLaws.{update_fresh}
 use Rattle.table.specs.ReadLaws.{table-place}
-use Rattle.grade.specs.declared.Scored.{Scored}
+use Rattle.grade.specs.declared.Score.{Score}
+use Rattle.refusal.specs.Outcomes.{Outcome}
 use Rattle.score.specs.declared.Request.TheVariants.{Opacity}
 use Rattle.grade.specs.Finalize.{finalized}
 use Rattle.grade.specs.Answered.{answered}
@@ -209,7 +210,7 @@ table-sums kind w h target canvas table t =
     (λ y x l m. table-place w h target canvas table t y x l m)
 
 -- ---- a score: sizes, lengths and the count are passed
-pub weighed : (kind : Kind) (a : Float) (levels : List Float) (w h : ℕ) (table : List Float) (r : Scored) → Sides w h → length table ≡ h * (w + 1) * 15 → length levels ≡ 64
+pub weighed : (kind : Kind) (a : Float) (levels : List Float) (w h : ℕ) (table : List Float) (r : Outcome Score) → Sides w h → length table ≡ h * (w + 1) * 15 → length levels ≡ 64
     → r ≡ answered (span_refusal kind (Opacity a) levels w h table) (score_at (span_sums kind w h table) (Opacity a) levels)
     → r ≡ answered (lowest (place_if (bad_places kind) ∷ opacity_if (not (within a)) ∷ [])) (finalized (span_sums kind w h table) a)
 unfolding span_refusal score_at

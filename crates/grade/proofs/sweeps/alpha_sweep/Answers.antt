@@ -1,4 +1,8 @@
 use mathlib.Core.Path.{sym, ◌∙◌}
+use Rattle.std.proofs.Common.{rules}
+use Rattle.std.specs.Prelude.{◌≡◌}
+use Rattle.refusal.specs.Outcomes.{number, outcome, Refused}
+use Rattle.refusal.specs.OutcomeLaws.{number-positive}
 use Rattle.grade.specs.Swept.{swept}
 use Rattle.grade.specs.AlphaSweep.{sweep_refusal}
 use Rattle.grade.specs.AnsweredLaws.{answered-refused, answered-done}
@@ -7,17 +11,16 @@ use Rattle.grade.proofs.sweeps.alpha_sweep.Goals as goal
 
 -- `grade::sweeps::alpha_sweep` meets its contract: the refusal, or the sweep.
 
-pub returns-then-no-ne0 : goal.returns-then-no-ne0
-returns-then-no-ne0 c =
+pub returns-in_err-tested : goal.returns-in_err-tested
+returns-in_err-tested c =
     let a = c.args in
-    answered-refused (sweep_refusal a.levels.now a.n) c.sweep_refusal-no.result (swept a.s a.levels.now a.n) c.sweep_refusal-no.ensures c.if-no-ne0.true
+    let k : outcome c.from_residual.result ≡ Refused (number c.in_err-tested.field-0.0) = search rules in
+    k ∙ answered-refused (sweep_refusal a.levels.now a.n) (number c.in_err-tested.field-0.0) (swept a.s a.levels.now a.n) c.in_err-tested.ensures (number-positive c.in_err-tested.field-0.0)
 
 pub sweep-requires : goal.sweep-requires
-sweep-requires c =
-    let a = c.args in
-    sweep_passed a.levels.now a.n (sym c.sweep_refusal-no.ensures ∙ c.if-no-ne0.false)
+sweep-requires c = sweep_passed c.args.levels.now c.args.n (sym c.in_ok-tested.ensures)
 
 pub returns : goal.returns
 returns c =
     let a = c.args in
-    answered-done (sweep_refusal a.levels.now a.n) (swept a.s a.levels.now a.n) c.sweep.result (sym c.sweep_refusal-no.ensures ∙ c.if-no-ne0.false) c.sweep.ensures
+    answered-done (sweep_refusal a.levels.now a.n) (swept a.s a.levels.now a.n) c.sweep.result (sym c.in_ok-tested.ensures) c.sweep.ensures

@@ -4,6 +4,7 @@ use mir.Syntax.{w32}
 use mir.Val.{to_z, of_z}
 use mir.Facts.{to_z-of_z}
 use Rattle.cover.specs.declared.Kind.TheVariants.{Circle}
+use Rattle.refusal.specs.Outcomes.{outcome}
 use Rattle.score.specs.CallLaws.{usual_rows, point_nothing, point_told}
 use Rattle.score.specs.AskLaws.{PointsAsked, points_asked}
 use Rattle.gather.specs.StampSumLaws.{stamp_is_points}
@@ -52,7 +53,7 @@ returns-in-Some c =
     let a = c.args in
     simp (to_z-of_z, c.ranges.cx, c.ranges.cy, c.ranges.r) at (
     point_told _ a.request c.asked-opacity.result a.levels.now a.w a.h c.asked-opacity.ensures a.target.now a.canvas.now (c.usual_pictures.ensures c.if-usual_pictures.true)
-    c.unpaired-few.result c.finalize.result c.done.result (c.unpaired-few.ensures ∙ c.push_stamp.ensures ∙ stamp_is_points _ _ _ a.w a.h _ (rw c.in-Some.is at c.circle_stamp.ensures) a.target.now a.canvas.now) c.finalize.ensures c.done.ensures)
+    c.unpaired-few.result c.finalize.result (outcome c.done.result) (c.unpaired-few.ensures ∙ c.push_stamp.ensures ∙ stamp_is_points _ _ _ a.w a.h _ (rw c.in-Some.is at c.circle_stamp.ensures) a.target.now a.canvas.now) c.finalize.ensures c.done.ensures)
 
 pub reached_sums-sums-requires : goal.reached_sums-sums-requires
 reached_sums-sums-requires c =
@@ -64,7 +65,7 @@ returns-then-usual_pictures c =
     let a = c.args in
     simp (to_z-of_z, c.ranges.cx, c.ranges.cy, c.ranges.r) at (
     point_told _ a.request c.asked-opacity.result a.levels.now a.w a.h c.asked-opacity.ensures a.target.now a.canvas.now (c.usual_pictures.ensures c.if-usual_pictures.true)
-    c.reached_sums-sums.result c.finalize-then-usual_pictures.result c.done-then-usual_pictures.result c.reached_sums-sums.ensures c.finalize-then-usual_pictures.ensures c.done-then-usual_pictures.ensures)
+    c.reached_sums-sums.result c.finalize-then-usual_pictures.result (outcome c.done-then-usual_pictures.result) c.reached_sums-sums.ensures c.finalize-then-usual_pictures.ensures c.done-then-usual_pictures.ensures)
 
 pub returns : goal.returns
 returns c = simp (to_z-of_z, c.ranges.cx, c.ranges.cy, c.ranges.r) at c.tested_point_score.ensures

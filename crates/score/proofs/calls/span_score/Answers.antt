@@ -1,5 +1,6 @@
 use mathlib.Core.Path.{◌∙◌}
 use native.Mathlib.Omega.{arith}
+use Rattle.refusal.specs.Outcomes.{outcome}
 use Rattle.score.specs.CallLaws.{usual_rows, span_nothing, span_told}
 use Rattle.score.specs.AskLaws.{SpansAsked, spans_asked}
 use Rattle.gather.specs.StampSumLaws.{stamp_is_spans}
@@ -46,7 +47,7 @@ pub returns-in-Some : goal.returns-in-Some
 returns-in-Some c =
     let a = c.args in
     span_told _ a.request c.asked-opacity.result a.levels.now a.w a.h c.asked-opacity.ensures a.table.now (c.usual_table.ensures c.if-usual_table.true)
-    c.add_stamp-few.result c.finalize.result c.done.result (c.add_stamp-few.ensures ∙ stamp_is_spans _ _ _ a.w a.h _ (rw c.in-Some.is at c.stamp_of.ensures) a.table.now) c.finalize.ensures c.done.ensures
+    c.add_stamp-few.result c.finalize.result (outcome c.done.result) (c.add_stamp-few.ensures ∙ stamp_is_spans _ _ _ a.w a.h _ (rw c.in-Some.is at c.stamp_of.ensures) a.table.now) c.finalize.ensures c.done.ensures
 
 pub reached_sums-sums-requires : goal.reached_sums-sums-requires
 reached_sums-sums-requires c =
@@ -57,7 +58,7 @@ pub returns-then-usual_table : goal.returns-then-usual_table
 returns-then-usual_table c =
     let a = c.args in
     span_told _ a.request c.asked-opacity.result a.levels.now a.w a.h c.asked-opacity.ensures a.table.now (c.usual_table.ensures c.if-usual_table.true)
-    c.reached_sums-sums.result c.finalize-then-usual_table.result c.done-then-usual_table.result c.reached_sums-sums.ensures c.finalize-then-usual_table.ensures c.done-then-usual_table.ensures
+    c.reached_sums-sums.result c.finalize-then-usual_table.result (outcome c.done-then-usual_table.result) c.reached_sums-sums.ensures c.finalize-then-usual_table.ensures c.done-then-usual_table.ensures
 
 pub returns : goal.returns
 returns c = c.tested_span_score.ensures

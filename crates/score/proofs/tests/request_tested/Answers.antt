@@ -4,9 +4,9 @@ use Rattle.refusal.specs.Refusals.{count_if, place_if, opacity_if}
 use Rattle.refusal.specs.RefusalLaws.{lowest_skip, lowest-take, lowest-empty}
 use Rattle.cover.specs.Cover.{bad_places}
 use Rattle.score.specs.Scoring.{bad_count, bad_opacity}
-use Rattle.score.proofs.tests.request_refusal.Goals as goal
+use Rattle.score.proofs.tests.request_tested.Goals as goal
 
--- `score::tests::request_refusal` meets its contract: the tests come in the order of their numbers.
+-- `score::tests::request_tested` meets its contract: the tests come in the order of their numbers.
 
 pub returns-then-bad_count : goal.returns-then-bad_count
 returns-then-bad_count c =

@@ -10,9 +10,9 @@ use Rattle.cover.specs.Cover.{bad_places}
 use Rattle.grade.specs.AlphaSweep.{bad_levels}
 use Rattle.score.specs.Scoring.{bad_count, bad_opacity, span_refusal}
 use Rattle.score.specs.CallLaws.{size-first, length-next, others_next, or-first, or-second, or_neither}
-use Rattle.score.proofs.tests.span_refusal.Goals as goal
+use Rattle.score.proofs.tests.span_tested.Goals as goal
 
--- `score::tests::span_refusal` meets its contract: the tests come in the order of their numbers.
+-- `score::tests::span_tested` meets its contract: the tests come in the order of their numbers.
 
 pub returns-then-bad_size : goal.returns-then-bad_size
 unfolding span_refusal
@@ -39,13 +39,13 @@ returns-then-bad_table c =
     sym (length-next (bad_size a.w a.h) (bad_levels a.levels.now || bad_table a.w a.h (length a.table.now)) (count_if (bad_count a.request) ∷ place_if (bad_places a.kind) ∷ opacity_if (bad_opacity a.request a.levels.now) ∷ []) tt (sym c.bad_size.ensures ∙ c.if-bad_size.false)
     (or-second (bad_levels a.levels.now) (bad_table a.w a.h (length a.table.now)) (sym c.bad_table.ensures ∙ c.if-bad_table.true)))
 
-pub request_refusal-requires : goal.request_refusal-requires
-request_refusal-requires c = c.if-levels-ne64.false
+pub request_tested-requires : goal.request_tested-requires
+request_tested-requires c = c.if-levels-ne64.false
 
 pub returns : goal.returns
 unfolding span_refusal
 returns c =
     let a = c.args in
-    c.request_refusal.ensures
+    c.request_tested.ensures
     ∙ sym (others_next (bad_size a.w a.h) (bad_levels a.levels.now || bad_table a.w a.h (length a.table.now)) (count_if (bad_count a.request) ∷ place_if (bad_places a.kind) ∷ opacity_if (bad_opacity a.request a.levels.now) ∷ []) tt (sym c.bad_size.ensures ∙ c.if-bad_size.false)
     (or_neither (bad_levels a.levels.now) (bad_table a.w a.h (length a.table.now)) (ap not (eq-eqb (length a.levels.now) 64 c.if-levels-ne64.false)) (sym c.bad_table.ensures ∙ c.if-bad_table.false)))

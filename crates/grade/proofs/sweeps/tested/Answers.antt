@@ -1,9 +1,9 @@
 use mathlib.Core.Path.{sym, ◌∙◌}
 use Rattle.grade.specs.AlphaSweepLaws.{count_range, sweep_length, sweep_count, sweep_opacity, sweep_none}
 use native.Mathlib.Omega.{arith}
-use Rattle.grade.proofs.sweeps.sweep_refusal.Goals as goal
+use Rattle.grade.proofs.sweeps.tested.Goals as goal
 
--- `grade::sweeps::sweep_refusal` meets its contract: the tests come in the order of their numbers.
+-- `grade::sweeps::tested` meets its contract: the tests come in the order of their numbers.
 
 pub returns-then-levels-ne64 : goal.returns-then-levels-ne64
 returns-then-levels-ne64 c = let a = c.args in sweep_length a.levels.now a.n c.if-levels-ne64.true

@@ -8,9 +8,9 @@ use Rattle.refusal.specs.ThreeTests.{at_size, at_length, at-third, at_none}
 use Rattle.cover.specs.Cover.{bad_places}
 use Rattle.score.specs.Scoring.{point_sums_refusal}
 use native.Mathlib.Omega.{arith}
-use Rattle.score.proofs.tests.point_sums_refusal.Goals as goal
+use Rattle.score.proofs.tests.point_sums_tested.Goals as goal
 
--- `score::tests::point_sums_refusal` meets its contract: the tests come in the order of their numbers.
+-- `score::tests::point_sums_tested` meets its contract: the tests come in the order of their numbers.
 
 pub returns-then-bad_size : goal.returns-then-bad_size
 unfolding point_sums_refusal
