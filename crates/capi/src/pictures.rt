@@ -15,7 +15,7 @@ use picture::{Mean, Total};
 pub extern "C" fn sillbadger_levels(bits: u32, levels: &mut [f32]) -> u8
     ensures { SillbadgerLevelsSays bits levels.old result levels.new }
 {
-    grade::levels::alpha_levels(bits, levels)
+    refusal::number_of(grade::levels::alpha_levels(bits, levels))
 }
 
 // Every pixel has the colour.

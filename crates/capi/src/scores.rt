@@ -12,18 +12,20 @@ ghost use Rattle.capi.specs.Scores.{
   SillbadgerPointScoreSays,
   SillbadgerPointSweepSays,
 };
+ghost use Rattle.refusal.specs.Outcomes.{outcome};
 
 use crate::SillbadgerAnswer;
 use cover::Kind;
 use crossing::Outlined;
-use grade::Scored;
+use grade::Score;
+use refusal::Refusal;
 use score::Request;
 
-fn told(s: Scored) -> SillbadgerAnswer
-    ensures { result ≡ scored_told s }
+fn told(s: Result<Score, Refusal>) -> SillbadgerAnswer
+    ensures { result ≡ scored_told (outcome s) }
 {
     match s {
-        Scored::Done(x) => {
+        Ok(x) => {
             let mut a = crate::refused(0);
             a.count = x.count;
             a.opacity = x.opacity;
@@ -33,7 +35,7 @@ fn told(s: Scored) -> SillbadgerAnswer
             a.blue = x.blue;
             a
         }
-        Scored::Refused(k) => crate::refused(k),
+        Err(no) => crate::refused(no.number()),
     }
 }
 

@@ -12,7 +12,7 @@ pub extern "C" fn sillbadger_build(
 ) -> u8
     ensures { SillbadgerBuildSays w h target.now canvas.now table.old result table.new }
 {
-    table::build(target, canvas, w as usize, h as usize, table)
+    refusal::number_of(table::build(target, canvas, w as usize, h as usize, table))
 }
 
 // Rewrites the canvas's sums in rows ymin to ymax, any numbers; with a negative ymax in every row from ymin on.
@@ -28,5 +28,7 @@ pub extern "C" fn sillbadger_update(
 ) -> u8
     ensures { SillbadgerUpdateSays w h target.now canvas.now ymin ymax table.old result table.new }
 {
-    table::update_canvas_rows(target, canvas, w as usize, h as usize, table, ymin, ymax)
+    refusal::number_of(table::update_canvas_rows(
+        target, canvas, w as usize, h as usize, table, ymin, ymax,
+    ))
 }

@@ -18,9 +18,11 @@ ghost use Rattle.probe_score.specs.Probes.{
   ProbeCollectCircleSumsSays,
   ProbeCollectTriangleSumsSays,
 };
+ghost use Rattle.refusal.specs.Outcomes.{outcome};
 
 use cover::Kind;
-use grade::Scored;
+use grade::Score;
+use refusal::Refusal;
 use score::{Collected, Request};
 use sums::ShapeSums;
 
@@ -75,7 +77,7 @@ pub struct ProbedCollected {
 pub extern "C" fn probe_alpha_levels(bits: u32, levels: &mut [f32]) -> u8
     ensures { ProbeAlphaLevelsSays bits levels.old result levels.new }
 {
-    grade::levels::alpha_levels(bits, levels)
+    refusal::number_of(grade::levels::alpha_levels(bits, levels))
 }
 
 fn sums_of(s: ProbedSums) -> ShapeSums
@@ -132,11 +134,11 @@ fn request_of(single: bool, opacity: f32, n: usize) -> Request
     Request::Levels(n)
 }
 
-fn answer_of(s: Scored) -> ProbedAnswer
-    ensures { result ≡ answer_of s }
+fn answer_of(s: Result<Score, Refusal>) -> ProbedAnswer
+    ensures { result ≡ answer_of (outcome s) }
 {
     match s {
-        Scored::Done(r) => ProbedAnswer {
+        Ok(r) => ProbedAnswer {
             refused: 0,
             opacity: r.opacity,
             count: r.count,
@@ -145,8 +147,8 @@ fn answer_of(s: Scored) -> ProbedAnswer
             green: r.green,
             blue: r.blue,
         },
-        Scored::Refused(no) => ProbedAnswer {
-            refused: no,
+        Err(no) => ProbedAnswer {
+            refused: no.number(),
             opacity: 0.0,
             count: 0,
             change: 0.0,

@@ -1,5 +1,6 @@
 // What is written of an answer.
-use grade::{Score, Scored};
+use grade::Score;
+use refusal::Refusal;
 use score::Collected;
 use std::io;
 
@@ -22,10 +23,10 @@ fn scored(rt: &impl Print, r: Score) -> io::Result<()> {
     colour(rt, r.red, r.green, r.blue)
 }
 
-pub(crate) fn answer(rt: &impl Print, s: Scored) -> io::Result<()> {
+pub(crate) fn answer(rt: &impl Print, s: Result<Score, Refusal>) -> io::Result<()> {
     match s {
-        Scored::Done(r) => scored(rt, r)?,
-        Scored::Refused(no) => refused(rt, no)?,
+        Ok(r) => scored(rt, r)?,
+        Err(no) => refused(rt, no.number())?,
     }
     show::text(rt, "\n")
 }

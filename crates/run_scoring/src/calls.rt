@@ -122,7 +122,7 @@ fn build(target: &[f32; 110], canvas: &[f32; 110], places: &mut [f64]) {
     let t = &target[..];
     let c = &canvas[..];
     if 600 <= places.len() {
-        table::build(&t[0..105], &c[0..105], 7, 5, &mut places[0..600]);
+        let _ = table::build(&t[0..105], &c[0..105], 7, 5, &mut places[0..600]);
     }
 }
 

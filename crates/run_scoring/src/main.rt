@@ -32,7 +32,7 @@ fn fill_levels(levels: &mut [f32], at: u64, bad: u64) {
     if levels.len() != 70 {
         return;
     }
-    grade::levels::alpha_levels(6, &mut levels[0..64]);
+    let _ = grade::levels::alpha_levels(6, &mut levels[0..64]);
     if at < 70 {
         levels[at as usize] = float32(bad);
     }
@@ -180,7 +180,7 @@ fn eight_across(rt: &impl Print, levels: &[f32]) -> io::Result<()> {
 }
 
 fn levels_on(rt: &impl Print, bits: u32, levels: &mut [f32]) -> io::Result<()> {
-    let no = grade::levels::alpha_levels(bits, levels);
+    let no = refusal::number_of(grade::levels::alpha_levels(bits, levels));
     show::unsigned(rt, no as u64)?;
     show::text(rt, "\n")?;
     eight_across(rt, levels)

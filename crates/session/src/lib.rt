@@ -5,14 +5,16 @@ ghost use Rattle.std.specs.Prelude.{◌≡◌, ◌+◌, ◌≤◌, length, take,
 ghost use Rattle.frame.specs.Frames.{new, row, score, paint};
 ghost use Rattle.frame.specs.declared.Answer.TheVariants.{Refused};
 ghost use Rattle.session.specs.Session.{bad_sides, values_of};
+ghost use Rattle.refusal.specs.Outcomes.{outcome};
 ghost use Rattle.held.specs.Asking.{Carried};
 ghost use Rattle.session.specs.Held.{Sides, Holds, weighed_of, stepped, StepTakes, StepSays};
 
 use cover::Kind;
 use frame::{Answer, Values};
-use grade::{Score, Scored};
+use grade::Score;
 use held::{Request, State};
 use lines::MALFORMED;
+use refusal::Refusal;
 
 mod sheet;
 
@@ -147,15 +149,15 @@ fn step_row(
     }
 }
 
-// The score of a shape on the picture held, or the number of the refusal.
-fn weighed(s: State, kind: Kind, opacity: f32, table: &[f64]) -> Scored
+// The score of a shape on the picture held, or the refusal.
+fn weighed(s: State, kind: Kind, opacity: f32, table: &[f64]) -> Result<Score, Refusal>
     requires { ((s.w ≡ 0 → ⊥) → Sides s.w s.h) × (length table.now ≡ 4080) }
-    ensures { result ≡ weighed_of s kind opacity table.now }
+    ensures { outcome result ≡ weighed_of s kind opacity table.now }
 {
     let w = s.w;
     let h = s.h;
     if w == 0 {
-        return Scored::Refused(MALFORMED);
+        return Err(Refusal::Malformed);
     }
     let k = h * (w + 1) * 15;
     sheet::weigh(kind, opacity, w, h, &table[0..k])
@@ -174,11 +176,11 @@ fn step_score(
 {
     let scored = weighed(s, kind, float::of_bits32(opacity), table);
     match scored {
-        Scored::Done(score) => Stepped {
+        Ok(score) => Stepped {
             state: s,
             answer: Answer::Scored(values(score)),
         },
-        Scored::Refused(number) => refused(s, number),
+        Err(no) => refused(s, no.number()),
     }
 }
 
@@ -200,7 +202,7 @@ fn step_paint(
     let a = float::of_bits32(opacity);
     let scored = weighed(s, kind, a, table);
     match scored {
-        Scored::Done(score) => {
+        Ok(score) => {
             let total = sheet::paint(
                 kind,
                 a,
@@ -221,7 +223,7 @@ fn step_paint(
                 answer: Answer::Painted(values(score), float::bits64(total)),
             }
         }
-        Scored::Refused(number) => refused(s, number),
+        Err(no) => refused(s, no.number()),
     }
 }
 

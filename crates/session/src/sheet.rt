@@ -2,6 +2,7 @@
 ghost use Rattle.std.specs.Prelude.{◌≡◌, false, not, [], ◌∷◌, map, ◌+◌, ◌*◌, ◌<◌, T, length};
 ghost use Rattle.laws.specs.Rows.{put_row};
 ghost use Rattle.refusal.specs.Refusals.{lowest, place_if, opacity_if};
+ghost use Rattle.refusal.specs.Outcomes.{outcome};
 ghost use Rattle.float.specs.Within.{nought, within, all_within};
 ghost use Rattle.cover.specs.Cover.{bad_places};
 ghost use Rattle.grade.specs.Finalize.{finalized};
@@ -14,7 +15,8 @@ ghost use Rattle.session.specs.Session.{channel};
 ghost use Rattle.session.specs.Held.{Sides, Sheet};
 
 use cover::Kind;
-use grade::{Score, Scored};
+use grade::Score;
+use refusal::Refusal;
 use score::Request;
 
 // A byte as a channel.
@@ -77,10 +79,16 @@ pub(crate) fn set_row(
     let _ = table::build(target, canvas, w, h, table);
 }
 
-// The score of a shape, or the number of the refusal.
-pub(crate) fn weigh(kind: Kind, opacity: f32, w: usize, h: usize, table: &[f64]) -> Scored
+// The score of a shape, or the refusal.
+pub(crate) fn weigh(
+    kind: Kind,
+    opacity: f32,
+    w: usize,
+    h: usize,
+    table: &[f64],
+) -> Result<Score, Refusal>
     requires { Sides w h × (length table.now ≡ h * (w + 1) * 15) }
-    ensures { result ≡ answered (lowest (place_if (bad_places kind) ∷ opacity_if (not (within opacity)) ∷ [])) (finalized (span_sums kind w h table.now) opacity) }
+    ensures { outcome result ≡ answered (lowest (place_if (bad_places kind) ∷ opacity_if (not (within opacity)) ∷ [])) (finalized (span_sums kind w h table.now) opacity) }
 {
     let levels = [0.0f32; 64];
     score::calls::span_score(kind, Request::Opacity(opacity), &levels, w, h, table)

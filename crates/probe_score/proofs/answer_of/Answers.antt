@@ -1,14 +1,15 @@
-use mathlib.Core.Path.{sym, ap}
+use mathlib.Core.Path.{sym, ap, ◌∙◌}
 use lib.Ieee.{of_bits}
+use Rattle.refusal.specs.Outcomes.{outcome, Refused}
 use Rattle.probe_score.specs.Probes.{answer_of}
 use Rattle.probe_score.proofs.answer_of.Goals as goal
 
 -- By cases on the answer.
 
-pub returns-in-Done : goal.returns-in-Done
+pub returns-in-Ok : goal.returns-in-Ok
 unfolding of_bits
-returns-in-Done c = sym (ap answer_of c.in-Done.is)
+returns-in-Ok c = sym (ap (λ r. answer_of (outcome r)) c.in-Ok.is)
 
-pub returns-in-Refused : goal.returns-in-Refused
+pub returns-in-Err : goal.returns-in-Err
 unfolding of_bits
-returns-in-Refused c = sym (ap answer_of c.in-Refused.is)
+returns-in-Err c = ap (λ n. answer_of (Refused n)) c.number.ensures ∙ sym (ap (λ r. answer_of (outcome r)) c.in-Err.is)

@@ -1,3 +1,6 @@
+use mathlib.Core.Path.{ap, sym, ◌∙◌}
+use Rattle.refusal.specs.Outcomes.{outcome}
+use Rattle.refusal.specs.Outcomes as scored
 use native.Mathlib.Nat.{sub-zero}
 use native.Mathlib.Omega.{arith}
 use Rattle.session.specs.SessionLaws.{sheet_of, rooms, sides_held, result_as, paint-number, shape_refused, shape_drawn, shape-placed, paint_done}
@@ -27,20 +30,20 @@ pub paint-total-requires : goal.paint-total-requires
 paint-total-requires c =
     let a = c.args in
     let o = c.of_bits32-a.ensures in
-    let d = c.in-Done.is in record {
+    let d = (ap outcome c.in-Ok.is) in record {
       places = shape-placed a.kind a.opacity c.requires o c.weighed-scored.ensures d;
       sheet = simp sub-zero (sheet_of a.s a.target.now a.canvas.now a.table.now c.requires (shape_drawn a.kind a.opacity c.requires o c.weighed-scored.ensures d)).0;
     }
 
-pub returns-in-Done : goal.returns-in-Done
-returns-in-Done c =
+pub returns-in-Ok : goal.returns-in-Ok
+returns-in-Ok c =
     let m = c.paint-total.ensures in
     simp sub-zero
-    (paint_done c.args.kind c.args.opacity c.requires c.of_bits32-a.ensures c.weighed-scored.ensures c.in-Done.is c.values.ensures
+    (paint_done c.args.kind c.args.opacity c.requires c.of_bits32-a.ensures c.weighed-scored.ensures (ap outcome c.in-Ok.is) c.values.ensures
     (simp sub-zero at m.0) (simp sub-zero at m.1) (simp sub-zero at m.2) c.bits64.ensures)
 
-pub returns-in-Refused : goal.returns-in-Refused
-returns-in-Refused c =
+pub returns-in-Err : goal.returns-in-Err
+returns-in-Err c =
     let a = c.of_bits32-a.ensures in
     result_as c.refused.ensures
-    (shape_refused c.args.kind c.args.opacity c.requires a (paint-number c.args.kind c.args.opacity c.requires a) c.weighed-scored.ensures c.in-Refused.is)
+    (shape_refused c.args.kind c.args.opacity c.requires a (paint-number c.args.kind c.args.opacity c.requires a) c.weighed-scored.ensures (ap outcome c.in-Err.is ∙ ap scored.Refused (sym c.number.ensures)))

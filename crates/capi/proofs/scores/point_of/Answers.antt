@@ -7,6 +7,7 @@ use Rattle.cover.specs.declared.Kind.{Kind}
 use Rattle.cover.specs.declared.Kind.TheVariants.{Circle, Triangle}
 use Rattle.gather.specs.Gathered.{point_sums}
 use Rattle.score.specs.Scoring.{point_refusal, score_at}
+use Rattle.refusal.specs.Outcomes.{outcome}
 use Rattle.capi.specs.Answers.{refused_by}
 use Rattle.capi.specs.Scores.{by_points, point_answer}
 use Rattle.capi.specs.ScoreLaws.{tells_score}
@@ -24,7 +25,7 @@ returns-in-Circle c =
     let a = c.args in
     let kind = (Circle k.cx k.cy k.r) in
     tells_score (point_refusal kind a.request a.levels.now a.w a.h a.target.now a.canvas.now) (score_at (point_sums kind a.w a.h a.target.now a.canvas.now) a.request a.levels.now)
-    c.circle_point_score.result c.told.result c.told.ensures (simp (to_z-of_z, f0, f1, f2) at c.circle_point_score.ensures)
+    (outcome c.circle_point_score.result) c.told.result c.told.ensures (simp (to_z-of_z, f0, f1, f2) at c.circle_point_score.ensures)
     ∙ sym (ap (λ (x : Kind). point_answer a.w a.h (by_points (some x)) a.request a.levels.now a.target.now a.canvas.now) k.is)
 
 pub returns-in-Triangle : goal.returns-in-Triangle
@@ -39,7 +40,7 @@ returns-in-Triangle c =
     let a = c.args in
     let kind = (Triangle k.x0 k.y0 k.x1 k.y1 k.x2 k.y2) in
     tells_score (point_refusal kind a.request a.levels.now a.w a.h a.target.now a.canvas.now) (score_at (point_sums kind a.w a.h a.target.now a.canvas.now) a.request a.levels.now)
-    c.triangle_point_score.result c.told-in-Triangle.result c.told-in-Triangle.ensures (simp (to_z-of_z, f0, f1, f2, f3, f4, f5) at c.triangle_point_score.ensures)
+    (outcome c.triangle_point_score.result) c.told-in-Triangle.result c.told-in-Triangle.ensures (simp (to_z-of_z, f0, f1, f2, f3, f4, f5) at c.triangle_point_score.ensures)
     ∙ sym (ap (λ (x : Kind). point_answer a.w a.h (by_points (some x)) a.request a.levels.now a.target.now a.canvas.now) k.is)
 
 pub returns-in-Quad : goal.returns-in-Quad

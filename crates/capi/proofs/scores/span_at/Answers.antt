@@ -3,6 +3,7 @@ use mathlib.Core.Option.{Option}
 use Rattle.cover.specs.declared.Kind.{Kind}
 use Rattle.gather.specs.Gathered.{span_sums}
 use Rattle.score.specs.Scoring.{span_refusal, score_at}
+use Rattle.refusal.specs.Outcomes.{outcome}
 use Rattle.capi.specs.Answers.{refused_by}
 use Rattle.capi.specs.Scores.{span_answer}
 use Rattle.capi.specs.ScoreLaws.{tells_score}
@@ -15,7 +16,7 @@ returns-in-Known c =
     let kind = c.in-Known.kind in
     let a = c.args in
     tells_score (span_refusal kind a.request a.levels.now a.w a.h a.table.now) (score_at (span_sums kind a.w a.h a.table.now) a.request a.levels.now)
-    c.span_score.result c.told.result c.told.ensures c.span_score.ensures
+    (outcome c.span_score.result) c.told.result c.told.ensures c.span_score.ensures
     ∙ ap (λ (k : Option Kind). span_answer a.w a.h k a.request a.levels.now a.table.now) (rw c.in-Known.is at c.outline-o.ensures)
 
 pub returns-in-Unknown : goal.returns-in-Unknown

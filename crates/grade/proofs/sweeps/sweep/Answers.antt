@@ -25,7 +25,6 @@ pub loop-level-init : goal.loop-level-init
 unfolding best_of of_bits div
 loop-level-init c = (omega arith, refl, refl)
 
-
 -- a level of the part is that of the whole
 item : (xs : List Float) (n i : ℕ) → i < n → get_or (take (n - 0) xs) i nan ≡ level xs i
 item xs n i h =
