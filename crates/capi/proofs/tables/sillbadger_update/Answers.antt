@@ -5,4 +5,4 @@ use Rattle.capi.proofs.tables.sillbadger_update.Goals as goal
 
 pub returns : goal.returns
 returns c =
-    simp (to_z-of_z, c.ranges.ymin, c.ranges.ymax) at c.update_canvas_rows.ensures
+    rw c.number_of.ensures (simp (to_z-of_z, c.ranges.ymin, c.ranges.ymax) at c.update_canvas_rows.ensures)
