@@ -1,9 +1,8 @@
 -- Laws: two answers of a score's export are equal; an answer that is an enum is told; at one opacity levels do not matter.
-use Rattle.std.specs.Prelude.{◌≡◌, refl, Bool, true, not, cond, ◌||◌, List, [], ◌∷◌, ℕ, eqb, ℤ, length, Float}
+use Rattle.std.specs.Prelude.{◌≡◌, refl, Bool, true, not, cond, ◌||◌, List, [], ◌∷◌, ℕ, eqb, ℤ, length, Float, Option, None, Some}
 use Rattle.std.proofs.Common.{sym, ◌∙◌, eq-eqb}
 use Rattle.std.proofs.Math.Path.{ap}
 use Rattle.std.proofs.Math.Bool.{false}
-use Rattle.std.proofs.Math.Option.{Option, none, some}
 use Rattle.refusal.specs.Refusals.{lowest, size_if, length_if, count_if, place_if, opacity_if, bad_size}
 use Rattle.refusal.specs.RefusalLaws.{lowest_skip, lowest-take}
 use Rattle.refusal.specs.Lengths.{bad_picture, bad_table}
@@ -83,8 +82,8 @@ module _ (kind : Kind) (opacity : Float) (levels : List Float) (w h : ℕ) (e : 
   point_alone target canvas = alone (bad_picture w h (length target) || bad_picture w h (length canvas))
 
 same_answer : (w h : ℕ) (kind : Option Kind) (m n : Kind → ℕ) (s : Kind → Score) → ((k : Kind) → m k ≡ n k) → score_answer w h kind m s ≡ score_answer w h kind n s
-same_answer w h none m n s e = refl
-same_answer w h (some kind) m n s e = ap (λ (k : ℕ). answered k (score_told (s kind))) (e kind)
+same_answer w h None m n s e = refl
+same_answer w h (Some kind) m n s e = ap (λ (k : ℕ). answered k (score_told (s kind))) (e kind)
 
 module _ (w h : ℕ) (kind : Option Kind) (opacity : Float) (levels : List Float) (e : length levels ≡ 64) where
   pub span_told : (table : List Float) → span_answer w h kind (Opacity opacity) levels table

@@ -1,6 +1,5 @@
 -- Rules: the exports of scores. A shape crosses as a slice of coordinates; another length than 3, 6, 8 is refusal 2. "quads have the span score only".
-use Rattle.std.specs.Prelude.{◌≡◌, Bool, not, ◌||◌, List, [], ◌∷◌, ℕ, ℤ, length, Float}
-use Rattle.std.proofs.Math.Option.{Option, none, some}
+use Rattle.std.specs.Prelude.{◌≡◌, Bool, not, ◌||◌, List, [], ◌∷◌, ℕ, ℤ, length, Float, Option, None, Some}
 use Rattle.float.specs.Within.{within}
 use Rattle.refusal.specs.Refusals.{lowest, size_if, length_if, place_if, opacity_if, bad_size}
 use Rattle.refusal.specs.Lengths.{bad_picture, bad_table}
@@ -27,8 +26,8 @@ scored_told (Refused k) = refused_by k
 
 -- the answer for the shape that the coordinates say, from its refusal and its score
 abbrev pub score_answer : ℕ → ℕ → Option Kind → (Kind → ℕ) → (Kind → Score) → SillbadgerAnswer
-score_answer w h none number score = refused_by (shapeless w h)
-score_answer w h (some kind) number score = answered (number kind) (score_told (score kind))
+score_answer w h None number score = refused_by (shapeless w h)
+score_answer w h (Some kind) number score = answered (number kind) (score_told (score kind))
 
 -- at one opacity no levels are lent, and no count is given
 unfoldable pub opacity_refusal : Kind → Float → ℕ → ℕ → Bool → ℕ
@@ -51,10 +50,10 @@ SillbadgerSpanSweepSays w h shape levels count table r = r ≡ span_answer w h (
 
 -- ---- from the pictures
 abbrev pub by_points : Option Kind → Option Kind
-by_points none = none
-by_points (some (Circle cx cy r)) = some (Circle cx cy r)
-by_points (some (Triangle x0 y0 x1 y1 x2 y2)) = some (Triangle x0 y0 x1 y1 x2 y2)
-by_points (some (Quad x0 y0 x1 y1 x2 y2 x3 y3)) = none
+by_points None = None
+by_points (Some (Circle cx cy r)) = Some (Circle cx cy r)
+by_points (Some (Triangle x0 y0 x1 y1 x2 y2)) = Some (Triangle x0 y0 x1 y1 x2 y2)
+by_points (Some (Quad x0 y0 x1 y1 x2 y2 x3 y3)) = None
 
 abbrev pub point_answer : ℕ → ℕ → Option Kind → Request → List Float → List Float → List Float → SillbadgerAnswer
 point_answer w h kind request levels target canvas =

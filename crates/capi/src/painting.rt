@@ -1,8 +1,6 @@
 // The export of the paint call.
 ghost use Rattle.capi.specs.Painting.{SillbadgerPaintSays};
 
-use crossing::Outlined;
-
 // Blends a shape into the canvas, then updates the table over the shape's rows.
 #[unsafe(no_mangle)]
 pub extern "C" fn sillbadger_paint(
@@ -21,11 +19,11 @@ pub extern "C" fn sillbadger_paint(
 {
     let o = crossing::outline(shape);
     match o {
-        Outlined::Known(kind) => {
+        Some(kind) => {
             paint::paint(
                 kind, opacity, red, green, blue, w as usize, h as usize, target, canvas, table,
             )
         }
-        Outlined::Unknown => crate::no_shape(w, h),
+        None => crate::no_shape(w, h),
     }
 }

@@ -1,6 +1,5 @@
 // Exports of scores. A shape is a slice of coordinates: cx, cy, r, or the corners of a triangle or a quad, x and y of each.
-ghost use Rattle.std.specs.Prelude.{◌≡◌};
-ghost use Rattle.std.proofs.Math.Option.{some};
+ghost use Rattle.std.specs.Prelude.{◌≡◌, Some};
 ghost use Rattle.crossing.specs.Outlines.{kind_of};
 ghost use Rattle.capi.specs.Scores.{
   scored_told,
@@ -16,7 +15,6 @@ ghost use Rattle.refusal.specs.Outcomes.{outcome};
 
 use crate::SillbadgerAnswer;
 use cover::Kind;
-use crossing::Outlined;
 use grade::Score;
 use refusal::Refusal;
 use score::Request;
@@ -51,10 +49,10 @@ fn span_at(
 {
     let o = crossing::outline(shape);
     match o {
-        Outlined::Known(kind) => {
+        Some(kind) => {
             told(score::calls::span_score(kind, request, levels, w as usize, h as usize, table))
         }
-        Outlined::Unknown => crate::refused(crate::no_shape(w, h)),
+        None => crate::refused(crate::no_shape(w, h)),
     }
 }
 
@@ -98,7 +96,7 @@ fn point_of(
     target: &[f32],
     canvas: &[f32],
 ) -> SillbadgerAnswer
-    ensures { result ≡ point_answer w h (by_points (some kind)) request levels.now target.now canvas.now }
+    ensures { result ≡ point_answer w h (by_points (Some kind)) request levels.now target.now canvas.now }
 {
     match kind {
         Kind::Circle(cx, cy, r) => {
@@ -128,8 +126,8 @@ fn point_at(
 {
     let o = crossing::outline(shape);
     match o {
-        Outlined::Known(kind) => point_of(w, h, kind, request, levels, target, canvas),
-        Outlined::Unknown => crate::refused(crate::no_shape(w, h)),
+        Some(kind) => point_of(w, h, kind, request, levels, target, canvas),
+        None => crate::refused(crate::no_shape(w, h)),
     }
 }
 

@@ -1,20 +1,12 @@
 -- Laws: a shape has one outline.
-use Rattle.std.specs.Prelude.{◌≡◌, refl, Bool, true, false, cond, ◌||◌, List, ℕ, ◌≤◌, eqb, ℤ}
-use Rattle.std.proofs.Common.{sym, ap, ◌∙◌, arith, eq-eqb, ne_eqb, eqb-true}
-use Rattle.std.proofs.Math.Option.{some-injective}
+use Rattle.std.specs.Prelude.{◌≡◌, refl, Bool, true, false, cond, ◌||◌, List, ℕ, ◌≤◌, eqb, ℤ, Option}
+use Rattle.std.proofs.Common.{sym, ◌∙◌, arith, eq-eqb, ne_eqb, eqb-true}
+use Rattle.cover.specs.declared.Kind.{Kind}
 use Rattle.laws.specs.Fit.{no_both}
-use Rattle.crossing.specs.declared.Outlined.{Outlined}
-use Rattle.crossing.specs.declared.Outlined.TheVariants.{Known, Unknown}
-use Rattle.crossing.specs.Outlines.{sized, wanted, kind_in, OutlineSays}
+use Rattle.crossing.specs.Outlines.{sized, wanted, OutlineSays}
 
-outline_only : (r s : Outlined) → kind_in r ≡ kind_in s → r ≡ s
-outline_only (Known a) (Known b) e = ap Known (some-injective a b e)
-outline_only (Known a) Unknown e = let z : ◌≡◌ {A = ℕ} 0 1 = cc in absurd (omega arith)
-outline_only Unknown (Known b) e = let z : ◌≡◌ {A = ℕ} 0 1 = cc in absurd (omega arith)
-outline_only Unknown Unknown e = refl
-
-pub OutlineSays-unique : (zs : List ℤ) (r s : Outlined) → OutlineSays zs r → OutlineSays zs s → r ≡ s
-OutlineSays-unique zs r s p q = outline_only r s (p ∙ sym q)
+pub OutlineSays-unique : (zs : List ℤ) (r s : Option Kind) → OutlineSays zs r → OutlineSays zs s → r ≡ s
+OutlineSays-unique zs r s p q = p ∙ sym q
 
 -- ---- how many coordinates are there
 module _ (n l : ℕ) (h : wanted n ≤ l) where

@@ -1,10 +1,7 @@
 -- Rules: how a shape crosses the C border: a slice of coordinates whose length (3, 6, 8) says its kind.
-use Rattle.std.specs.Prelude.{◌≡◌, Bool, cond, ◌||◌, List, ℕ, eqb, ℤ, pos, length, get_or}
-use Rattle.std.proofs.Math.Option.{Option, none, some}
+use Rattle.std.specs.Prelude.{◌≡◌, Bool, cond, ◌||◌, List, ℕ, eqb, ℤ, pos, length, get_or, Option, None, Some}
 use Rattle.cover.specs.declared.Kind.{Kind}
 use Rattle.cover.specs.declared.Kind.TheVariants.{Circle, Triangle, Quad}
-use Rattle.crossing.specs.declared.Outlined.{Outlined}
-use Rattle.crossing.specs.declared.Outlined.TheVariants.{Known, Unknown}
 
 -- some kind has so many coordinates
 abbrev pub sized : ℕ → Bool
@@ -23,16 +20,11 @@ kind_sized n zs =
 
 -- the shape that a slice says, if it says one
 abbrev pub kind_of : List ℤ → Option Kind
-kind_of zs = cond (sized (length zs)) (some (kind_sized (length zs) zs)) none
+kind_of zs = cond (sized (length zs)) (Some (kind_sized (length zs) zs)) None
 
 -- how many of the coordinates are read
 abbrev pub wanted : ℕ → ℕ
 wanted n = cond (eqb n 3) 3 (cond (eqb n 6) 6 8)
 
--- what an outline is
-abbrev pub kind_in : Outlined → Option Kind
-kind_in (Known kind) = some kind
-kind_in Unknown = none
-
-abbrev pub OutlineSays : List ℤ → Outlined → Type 0
-OutlineSays zs r = kind_in r ≡ kind_of zs
+abbrev pub OutlineSays : List ℤ → Option Kind → Type 0
+OutlineSays zs r = r ≡ kind_of zs

@@ -8,13 +8,6 @@ use cover::Kind;
 
 pub mod lists;
 
-// A shape by its coordinates, or nothing that is a shape.
-#[derive(Clone, Copy)]
-pub enum Outlined {
-    Known(Kind),
-    Unknown,
-}
-
 // Some kind has so many coordinates: 3 for cx, cy, r; 6 for three corners; 8 for four.
 fn is_sized(n: usize) -> bool
     ensures { result ≡ sized n }
@@ -39,13 +32,13 @@ fn kind_sized(n: usize, zs: &[i32]) -> Kind
     }
 }
 
-// The number of coordinates says the kind.
-pub fn outline(shape: &[i32]) -> Outlined
+// The number of coordinates says the kind; another number is no shape.
+pub fn outline(shape: &[i32]) -> Option<Kind>
     ensures { OutlineSays shape.now result }
 {
     let n = shape.len();
     if is_sized(n) {
-        return Outlined::Known(kind_sized(n, shape));
+        return Some(kind_sized(n, shape));
     }
-    Outlined::Unknown
+    None
 }

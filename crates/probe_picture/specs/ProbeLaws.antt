@@ -1,7 +1,6 @@
 -- Laws: two answers of a probe are equal.
-use Rattle.std.specs.Prelude.{◌≡◌, List, ℕ, ℤ, Float}
+use Rattle.std.specs.Prelude.{◌≡◌, List, ℕ, ℤ, Float, Option, None, Some}
 use Rattle.std.proofs.Common.{sym, ◌∙◌}
-use Rattle.std.proofs.Math.Option.{Option, none, some}
 use Rattle.cover.specs.declared.Kind.{Kind}
 use Rattle.crossing.specs.Outlines.{kind_of}
 use Rattle.picture.specs.PixelLaws.{FilledCanvasSays-unique}
@@ -36,8 +35,8 @@ blended_unique kind opacity red green blue w h old r s a b p q =
 
 module _ (opacity red green blue : Float) (w h : ℕ) (old : List Float) (r s : ℕ) (a b : List Float) where
   blends_one : (kind : Option Kind) → Blends kind opacity red green blue w h old r a → Blends kind opacity red green blue w h old s b → (r ≡ s) × (a ≡ b)
-  blends_one none p q = (p.0 ∙ sym q.0, p.1 ∙ sym q.1)
-  blends_one (some kind) p q = blended_unique kind opacity red green blue w h old r s a b p q
+  blends_one None p q = (p.0 ∙ sym q.0, p.1 ∙ sym q.1)
+  blends_one (Some kind) p q = blended_unique kind opacity red green blue w h old r s a b p q
 
   pub ProbeBlendSays-unique : (shape : List ℤ) → ProbeBlendSays w h shape opacity red green blue old r a → ProbeBlendSays w h shape opacity red green blue old s b → (r ≡ s) × (a ≡ b)
   ProbeBlendSays-unique shape = blends_one (kind_of shape)

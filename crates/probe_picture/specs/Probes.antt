@@ -1,6 +1,5 @@
 -- Rules: what the probes promise is what the functions behind them promise, with the tests of document 01's table before painting.
-use Rattle.std.specs.Prelude.{◌≡◌, cond, List, [], ◌∷◌, ℕ, eqb, ℤ, pos, length, Float}
-use Rattle.std.proofs.Math.Option.{Option, none, some}
+use Rattle.std.specs.Prelude.{◌≡◌, cond, List, [], ◌∷◌, ℕ, eqb, ℤ, pos, length, Float, Option, None, Some}
 use Rattle.laws.specs.Answer.{Answer, answer}
 use Rattle.float.specs.Within.{nought}
 use Rattle.refusal.specs.Refusals.{lowest, size_if, length_if, place_if, bad_size}
@@ -44,8 +43,8 @@ pub record Blended (kind : Kind) (opacity red green blue : Float) (w h : ℕ) (o
 
 -- a shape crosses as a slice of coordinates; another length than 3, 6, 8 is refusal 2
 abbrev pub Blends : Option Kind → Float → Float → Float → Float → ℕ → ℕ → List Float → ℕ → List Float → Type 0
-Blends none opacity red green blue w h old r new = (r ≡ 2) × (new ≡ old)
-Blends (some kind) opacity red green blue w h old r new = Blended kind opacity red green blue w h old r new
+Blends None opacity red green blue w h old r new = (r ≡ 2) × (new ≡ old)
+Blends (Some kind) opacity red green blue w h old r new = Blended kind opacity red green blue w h old r new
 
 abbrev pub ProbeBlendSays : ℕ → ℕ → List ℤ → Float → Float → Float → Float → List Float → ℕ → List Float → Type 0
 ProbeBlendSays w h shape opacity red green blue old r new = Blends (kind_of shape) opacity red green blue w h old r new
@@ -64,8 +63,8 @@ abbrev pub unreached : ℕ → ProbedReach
 unreached number = record { number = number; first = pos 0; last = pos 0 }
 
 abbrev pub reach_in : Option Kind → ℕ → ℕ → ProbedReach
-reach_in none w h = unreached 2
-reach_in (some kind) w h = reach_of kind w h
+reach_in None w h = unreached 2
+reach_in (Some kind) w h = reach_of kind w h
 
 abbrev pub ProbeReachSays : ℕ → ℕ → List ℤ → ProbedReach → Type 0
 ProbeReachSays w h shape r = r ≡ reach_in (kind_of shape) w h

@@ -16,7 +16,6 @@ ghost use Rattle.probe_picture.specs.Probes.{
 };
 
 use cover::Kind;
-use crossing::Outlined;
 use picture::{Mean, Total};
 
 #[repr(C)]
@@ -143,8 +142,8 @@ pub fn probe_blend(
 {
     let o = crossing::outline(shape);
     match o {
-        Outlined::Known(kind) => blended(kind, opacity, red, green, blue, w, h, canvas),
-        Outlined::Unknown => refusal::LENGTH,
+        Some(kind) => blended(kind, opacity, red, green, blue, w, h, canvas),
+        None => refusal::LENGTH,
     }
 }
 
@@ -192,7 +191,7 @@ pub fn probe_reach(w: usize, h: usize, shape: &[i32]) -> ProbedReach
 {
     let o = crossing::outline(shape);
     match o {
-        Outlined::Known(kind) => reach(kind, w, h),
-        Outlined::Unknown => unreached(refusal::LENGTH),
+        Some(kind) => reach(kind, w, h),
+        None => unreached(refusal::LENGTH),
     }
 }

@@ -1,6 +1,6 @@
+use Rattle.std.specs.Prelude.{None, Some}
 use mathlib.Core.Path.{sym, ap, ◌∙◌}
 use mathlib.Core.Bool.{Bool, cond}
-use mathlib.Core.Option.{none, some}
 use lib.ListN.{length}
 use Rattle.crossing.specs.Outlines.{kind_sized}
 use Rattle.crossing.specs.OutlineLaws.{all_there}
@@ -16,10 +16,10 @@ kind_sized-requires c =
 pub returns-then-is_sized : goal.returns-then-is_sized
 returns-then-is_sized c =
     let zs = c.args.shape.now in
-    ap some c.kind_sized.ensures
-    ∙ sym (ap (λ (b : Bool). cond b (some (kind_sized (length zs) zs)) none) (sym c.is_sized.ensures ∙ c.if-is_sized.true))
+    ap Some c.kind_sized.ensures
+    ∙ sym (ap (λ (b : Bool). cond b (Some (kind_sized (length zs) zs)) None) (sym c.is_sized.ensures ∙ c.if-is_sized.true))
 
 pub returns : goal.returns
 returns c =
     let zs = c.args.shape.now in
-    sym (ap (λ (b : Bool). cond b (some (kind_sized (length zs) zs)) none) (sym c.is_sized.ensures ∙ c.if-is_sized.false))
+    sym (ap (λ (b : Bool). cond b (Some (kind_sized (length zs) zs)) None) (sym c.is_sized.ensures ∙ c.if-is_sized.false))

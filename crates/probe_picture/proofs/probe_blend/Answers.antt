@@ -3,9 +3,9 @@ use Rattle.probe_picture.proofs.probe_blend.Goals as goal
 
 -- What `blended` promises of the shape that the coordinates say; where they say none nothing is touched.
 
-pub returns-in-Known : goal.returns-in-Known
-returns-in-Known c =
-    rw (sym (rw c.in-Known.is at c.outline-o.ensures)) c.blended.ensures
+pub returns-in-Some : goal.returns-in-Some
+returns-in-Some c =
+    rw (sym (rw c.in-Some.is at c.outline-o.ensures)) c.blended.ensures
 
-pub returns-in-Unknown : goal.returns-in-Unknown
-returns-in-Unknown c = rw (sym (rw c.in-Unknown.is at c.outline-o.ensures)) (refl, refl)
+pub returns-in-None : goal.returns-in-None
+returns-in-None c = rw (sym (rw c.in-None.is at c.outline-o.ensures)) (refl, refl)

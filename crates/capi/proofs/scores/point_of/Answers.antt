@@ -1,5 +1,5 @@
+use Rattle.std.specs.Prelude.{Some}
 use mathlib.Core.Path.{sym, ap, ◌∙◌}
-use mathlib.Core.Option.{some}
 use mir.Facts.{to_z-of_z}
 use mir.Syntax.{w32}
 use mir.Val.{SFits}
@@ -26,7 +26,7 @@ returns-in-Circle c =
     let kind = (Circle k.cx k.cy k.r) in
     tells_score (point_refusal kind a.request a.levels.now a.w a.h a.target.now a.canvas.now) (score_at (point_sums kind a.w a.h a.target.now a.canvas.now) a.request a.levels.now)
     (outcome c.circle_point_score.result) c.told.result c.told.ensures (simp (to_z-of_z, f0, f1, f2) at c.circle_point_score.ensures)
-    ∙ sym (ap (λ (x : Kind). point_answer a.w a.h (by_points (some x)) a.request a.levels.now a.target.now a.canvas.now) k.is)
+    ∙ sym (ap (λ (x : Kind). point_answer a.w a.h (by_points (Some x)) a.request a.levels.now a.target.now a.canvas.now) k.is)
 
 pub returns-in-Triangle : goal.returns-in-Triangle
 returns-in-Triangle c =
@@ -41,11 +41,11 @@ returns-in-Triangle c =
     let kind = (Triangle k.x0 k.y0 k.x1 k.y1 k.x2 k.y2) in
     tells_score (point_refusal kind a.request a.levels.now a.w a.h a.target.now a.canvas.now) (score_at (point_sums kind a.w a.h a.target.now a.canvas.now) a.request a.levels.now)
     (outcome c.triangle_point_score.result) c.told-in-Triangle.result c.told-in-Triangle.ensures (simp (to_z-of_z, f0, f1, f2, f3, f4, f5) at c.triangle_point_score.ensures)
-    ∙ sym (ap (λ (x : Kind). point_answer a.w a.h (by_points (some x)) a.request a.levels.now a.target.now a.canvas.now) k.is)
+    ∙ sym (ap (λ (x : Kind). point_answer a.w a.h (by_points (Some x)) a.request a.levels.now a.target.now a.canvas.now) k.is)
 
 pub returns-in-Quad : goal.returns-in-Quad
 returns-in-Quad c =
     let a = c.args in
     c.refused.ensures
     ∙ ap refused_by c.no_shape.ensures
-    ∙ sym (ap (λ (x : Kind). point_answer a.w a.h (by_points (some x)) a.request a.levels.now a.target.now a.canvas.now) c.in-Quad.is)
+    ∙ sym (ap (λ (x : Kind). point_answer a.w a.h (by_points (Some x)) a.request a.levels.now a.target.now a.canvas.now) c.in-Quad.is)
