@@ -96,8 +96,12 @@ fn shape_agrees(name: &[u8], n: usize, given: &[u64; 12], wanted: &[u64; 4]) -> 
 
 // One line: a name, numbers, "=", answers.
 fn agrees(line: &[u8]) -> bool {
-    let name = scan::find(line, 0, b' ');
-    let equals = scan::find(line, name, b'=');
+    let Some(name) = scan::find(line, 0, b' ') else {
+        return false;
+    };
+    let Some(equals) = scan::find(line, name, b'=') else {
+        return false;
+    };
     if line.len() - equals < 2 {
         return false;
     }
@@ -127,11 +131,8 @@ fn replay(text: &[u8]) -> Tally {
         cases: 0,
         differences: 0,
     };
-    let mut a = 0;
-    while a < text.len() {
-        let e = scan::find(text, a, b'\n');
-        t = counted(t, agrees(&text[a..e]));
-        a = e + 1;
+    for line in text.split_inclusive(|b| *b == b'\n') {
+        t = counted(t, agrees(line.strip_suffix(b"\n").unwrap_or(line)));
     }
     t
 }

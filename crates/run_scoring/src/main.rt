@@ -200,7 +200,9 @@ fn levels_line(rt: &impl Print, p: &[u64; 11]) -> io::Result<bool> {
 // ---- lines
 
 fn shape_behind_colon(text: &[u8]) -> Asked {
-    let colon = scan::find(text, 0, b':');
+    let Some(colon) = scan::find(text, 0, b':') else {
+        return Asked::Nothing;
+    };
     if text.len() - colon < 2 {
         return Asked::Nothing;
     }
@@ -227,23 +229,19 @@ fn named_line(
 }
 
 fn one(rt: &impl Print, line: &[u8]) -> io::Result<bool> {
-    let name = scan::find(line, 0, b' ');
-    if name == line.len() {
+    let Some(name) = scan::find(line, 0, b' ') else {
         return Ok(false);
-    }
+    };
     let mut p = [0u64; 11];
     let n = words::numbers(&line[name + 1..], &mut p);
     named_line(rt, &line[0..name], &line[name + 1..], n, &p)
 }
 
 fn each(rt: &impl Print, text: &[u8]) -> io::Result<()> {
-    let mut a = 0;
-    while a < text.len() {
-        let e = scan::find(text, a, b'\n');
-        if !one(rt, &text[a..e])? {
+    for line in text.split_inclusive(|b| *b == b'\n') {
+        if !one(rt, line.strip_suffix(b"\n").unwrap_or(line))? {
             show::text(rt, "bad line\n")?;
         }
-        a = e + 1;
     }
     Ok(())
 }

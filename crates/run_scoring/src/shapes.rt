@@ -59,10 +59,9 @@ fn named_shape(name: &[u8], n: usize, p: &[u64; 9]) -> Asked {
 }
 
 pub(crate) fn shape(text: &[u8]) -> Asked {
-    let name = scan::find(text, 0, b' ');
-    if name == text.len() {
+    let Some(name) = scan::find(text, 0, b' ') else {
         return Asked::Nothing;
-    }
+    };
     let mut p = [0u64; 9];
     let n = words::numbers(&text[name + 1..], &mut p);
     named_shape(&text[0..name], n, &p)

@@ -1,24 +1,24 @@
 -- Laws: two answers are equal; words read as they look; the first word of a text and the rest.
-use Rattle.std.specs.Prelude.{◌≡◌, refl, Bool, true, false, cond, eqb, length, drop, get_or, set, ℤ, pos, negsuc, ◌-ℤ◌}
-use Rattle.std.proofs.Common.{sym, ◌∙◌, length-set, drop_of_length-le, take-append-drop, drop-drop, take-suc-set, drop-set-lt, add-one, to_z-of_z, zero-add}
+use Rattle.std.specs.Prelude.{◌≡◌, refl, Bool, true, false, cond, Option, Some, None, unwrap_or, eqb, ltb, length, drop, get_or, set, ℤ}
+use Rattle.std.proofs.Common.{append-nil, sym, ◌∙◌, length-set, drop_of_length-le, take-append-drop, drop-drop, take-suc-set, drop-set-lt, add-one}
 use Rattle.std.proofs.Math.Path.{ap}
 use mathlib.Core.List.{List, [], ◌∷◌, ◌++◌}
-use Prim.Native.Nat.{ℕ, zero, suc, min, ◌+◌, ◌-◌, ◌*◌, ◌^◌, ◌<◌, ◌≤◌}
+use Prim.Native.Nat.{ℕ, suc, min, ◌+◌, ◌-◌, ◌*◌, ◌<◌, ◌≤◌}
 use native.Mathlib.Omega.{arith}
 use Rattle.std.proofs.Math.ListN.{take, length-drop}
 use Rattle.std.proofs.Math.Seq.{drop-cons, append_snoc}
 use borrow.Author.Tests.{lt-ltb, le-ltb, eq-eqb, ne_eqb}
-use Rattle.std.specs.Int.{Width}
-use mir.Val.{SFits, hbits, to_z, of_z}
-use Rattle.std.proofs.Math.Facts.{to_z_pos}
-use Rattle.words.specs.declared.Word.{Word}
-use Rattle.words.specs.declared.Word.TheVariants.{Number, Other}
+use Rattle.std.proofs.lemmas.Bool.{ltb-false}
+use Rattle.std.specs.List.{position, position_or_len, slice_range}
+use Rattle.std.proofs.lemmas.List.Recursion.{is_position_or_len}
+use Rattle.std.specs.Option.{option_map}
+use Rattle.std.proofs.lemmas.List.Folds.{drop_split}
 use Rattle.words.specs.Words.{index_of, FindSays, digit_of, digits_after, digits, negated, value_of, joined, words_of, leading, numbers_of, over, ValueSays, NumbersSays, SignedSays, Signed32Says}
 
-pub FindSays-unique : (t : List ℕ) (f b r s : ℕ) → FindSays t f b r → FindSays t f b s → r ≡ s
+pub FindSays-unique : (t : List ℕ) (f b : ℕ) (r s : Option ℕ) → FindSays t f b r → FindSays t f b s → r ≡ s
 FindSays-unique t f b r s p q = p ∙ sym q
 
-pub ValueSays-unique : (w : List ℕ) (r s : Word) → ValueSays w r → ValueSays w s → r ≡ s
+pub ValueSays-unique : (w : List ℕ) (r s : Option ℕ) → ValueSays w r → ValueSays w s → r ≡ s
 ValueSays-unique w r s p q = p ∙ sym q
 
 pub NumbersSays-unique : (t o : List ℕ) (r s : ℕ) (a b : List ℕ) → NumbersSays t o r a → NumbersSays t o s b → (r ≡ s) × (a ≡ b)
@@ -30,36 +30,56 @@ SignedSays-unique b r s p q = p ∙ sym q
 pub Signed32Says-unique : (b : ℕ) (r s : ℤ) → Signed32Says b r → Signed32Says b s → r ≡ s
 Signed32Says-unique b r s p q = p ∙ sym q
 
--- ---- signed numbers: -1 less a number, at any width
-
-below : (k : ℕ) → negsuc 0 -ℤ pos k ≡ negsuc k
-below zero = refl
-below (suc k) = ap (λ (n : ℕ). negsuc (suc n)) (zero-add k)
-
-module _ (w : Width) (k : ℕ) (h : k < 2 ^ hbits w) where
-  pub less_is : negsuc 0 -ℤ to_z w k ≡ negsuc k
-  less_is = ap (λ (z : ℤ). negsuc 0 -ℤ z) (to_z_pos w h) ∙ below k
-
-  pub less_fits : SFits w (negsuc 0 -ℤ to_z w k)
-  less_fits = rw less_is (record { sfits = h })
-
-  pub less_read : to_z w (of_z w (negsuc 0 -ℤ to_z w k)) ≡ negsuc k
-  less_read = to_z-of_z less_fits ∙ less_is
-
 -- ---- the first place of a byte
 
-pub index_none : (b i : ℕ) (t : List ℕ) → length t ≤ i → index_of b (drop i t) ≡ 0
+pub index_position : (b : ℕ) (t : List ℕ) → index_of b t ≡ position_or_len (λ x. eqb x b) t
 unfolding index_of
-index_none b i t h = rw (drop_of_length-le t {i = i} h)
+index_position b = is_position_or_len (index_of b) (λ x. eqb x b) refl (λ x r. ap (λ (n : ℕ). cond (eqb x b) 0 n) (one_more (index_of b r)))
+  where
+    one_more : (n : ℕ) → suc n ≡ 1 + n
+    one_more n = omega arith
 
-module _ (b i : ℕ) (t : List ℕ) (h : i < length t) where
-  pub index_here : get_or t i 0 ≡ b → index_of b (drop i t) ≡ 0
-  unfolding index_of
-  index_here e = rw (drop-cons t i 0 h) (simp (eq-eqb (get_or t i 0) b e))
+pub index_le : (b : ℕ) (t : List ℕ) → index_of b t ≤ length t
+unfolding index_of
+index_le b [] = omega arith
+index_le b (x ∷ r) = by (eqb x b) (index_le b r)
+  where
+    by : (e : Bool) → index_of b r ≤ length r → cond e 0 (suc (index_of b r)) ≤ suc (length r)
+    by true h = omega arith
+    by false h = omega arith
 
-  pub index_next : (get_or t i 0 ≡ b → ⊥) → index_of b (drop i t) ≡ suc (index_of b (drop (i + 1) t))
-  unfolding index_of
-  index_next e = rw (add-one, drop-cons t i 0 h) (simp (ne_eqb (get_or t i 0) b e))
+behind : (t : List ℕ) (f : ℕ) → f ≤ length t → slice_range t f (length t) ≡ drop f t
+behind t f h = sym (drop_split t f (length t) h ∙ ap (λ (l : List ℕ). slice_range t f (length t) ++ l) (drop_of_length-le t {i = length t} (omega arith)) ∙ append-nil (slice_range t f (length t)))
+
+-- a search of what stands from there on
+module _ (t : List ℕ) (f b : ℕ) (h : f ≤ length t) (o : Option ℕ) where
+  pub found_lem : o ≡ position (λ x. eqb x b) (slice_range t f (length t)) → FindSays t f b (option_map (λ i. f + i) o)
+  found_lem e =
+      ap (option_map (λ i. f + i)) (e ∙ ap (λ (l : List ℕ). position (λ x. eqb x b) l) (behind t f h))
+      ∙ by (ltb (position_or_len (λ x. eqb x b) (drop f t)) (length (drop f t)))
+      ∙ ap (λ (n : ℕ). cond (ltb n (length (drop f t))) (Some (f + n)) None) (sym (index_position b (drop f t)))
+    where
+      by : (x : Bool) → option_map (λ i. f + i) (cond x (Some (position_or_len (λ x. eqb x b) (drop f t))) None)
+          ≡ cond x (Some (f + position_or_len (λ x. eqb x b) (drop f t))) None
+      by true = refl
+      by false = refl
+
+pub not_found : (t : List ℕ) (f b : ℕ) → length t < f → FindSays t f b None
+unfolding index_of
+not_found t f b h = rw (drop_of_length-le t {i = f} (omega arith)) refl
+
+-- a place that is found, or else the text's length
+pub found_place : (t : List ℕ) (a b e : ℕ) (r : Option ℕ) → a < length t → FindSays t a b r → e ≡ unwrap_or r (length t) → e ≡ a + index_of b (drop a t)
+found_place t a b e r h p q =
+    by (ltb (index_of b (drop a t)) (length (drop a t))) refl (q ∙ ap (λ (o : Option ℕ). unwrap_or o (length t)) p)
+  where
+    by : (x : Bool) → ltb (index_of b (drop a t)) (length (drop a t)) ≡ x → e ≡ unwrap_or (cond x (Some (a + index_of b (drop a t))) None) (length t)
+        → e ≡ a + index_of b (drop a t)
+    by true w v = v
+    by false w v =
+        let k : length (drop a t) ≤ index_of b (drop a t) = ltb-false _ _ w in
+        let m : index_of b (drop a t) ≤ length (drop a t) = index_le b (drop a t) in
+        omega (arith, v, k, m, length-drop a t)
 
 -- ---- a line
 
@@ -75,21 +95,21 @@ unfolding digits
 digits_all base [] h = absurd (omega arith)
 digits_all base (b ∷ r) h = refl
 
-pub digits_none : (base : ℕ) (t : List ℕ) → length t ≡ 0 → digits base t ≡ Other
+pub digits_none : (base : ℕ) (t : List ℕ) → length t ≡ 0 → digits base t ≡ None
 unfolding digits
 digits_none base [] h = refl
 digits_none base (b ∷ r) h = absurd (omega arith)
 
-pub digits_end : (base n i : ℕ) (t : List ℕ) → length t ≤ i → digits_after base n (drop i t) ≡ Number n
+pub digits_end : (base n i : ℕ) (t : List ℕ) → length t ≤ i → digits_after base n (drop i t) ≡ Some n
 unfolding digits_after
 digits_end base n i t h = rw (drop_of_length-le t {i = i} h)
 
 module _ (base n i : ℕ) (t : List ℕ) (h : i < length t) where
-  pub digit_bad : base ≤ digit_of (get_or t i 0) → digits_after base n (drop i t) ≡ Other
+  pub digit_bad : base ≤ digit_of (get_or t i 0) → digits_after base n (drop i t) ≡ None
   unfolding digits_after
   digit_bad g = rw (drop-cons t i 0 h) (simp (le-ltb (digit_of (get_or t i 0)) base g))
 
-  pub digit_full : digit_of (get_or t i 0) < base → 1152921504606846976 ≤ n → digits_after base n (drop i t) ≡ Other
+  pub digit_full : digit_of (get_or t i 0) < base → 1152921504606846976 ≤ n → digits_after base n (drop i t) ≡ None
   unfolding digits_after
   digit_full g k = rw (drop-cons t i 0 h) (simp (lt-ltb (digit_of (get_or t i 0)) base g, le-ltb n 1152921504606846976 k))
 
@@ -99,7 +119,7 @@ module _ (base n i : ℕ) (t : List ℕ) (h : i < length t) where
 
 -- ---- one word
 
-pub value_none : (w : List ℕ) → length w ≡ 0 → value_of w ≡ Other
+pub value_none : (w : List ℕ) → length w ≡ 0 → value_of w ≡ None
 unfolding value_of
 value_none [] h = refl
 value_none (b ∷ r) h = absurd (omega arith)
@@ -141,18 +161,18 @@ first_word (b ∷ c ∷ r) h = by (eqb b 32) (first_word (c ∷ r) (omega arith)
 abbrev pub rest : List ℕ → ℕ → List ℕ
 rest t a = numbers_of (words_of (drop a t))
 
-module _ (t : List ℕ) (a e : ℕ) (h : a < length t) (found : FindSays t a 32 e) where
+module _ (t : List ℕ) (a e : ℕ) (h : a < length t) (found : e ≡ a + index_of 32 (drop a t)) where
   word_next : words_of (drop a t) ≡ take (e - a) (drop a t) ∷ words_of (drop (e + 1) t)
   word_next =
       let k : e - a ≡ index_of 32 (drop a t) = omega (arith, found) in
       let m : e + 1 ≡ a + suc (index_of 32 (drop a t)) = omega (arith, found) in
       rw (k, m) (first_word (drop a t) (rw length-drop (omega arith)) ∙ ap (λ (r : List ℕ). take (index_of 32 (drop a t)) (drop a t) ∷ words_of r) (drop-drop (suc (index_of 32 (drop a t))) a t))
 
-  pub rest-next : (x : ℕ) → Number x ≡ value_of (take (e - a) (drop a t)) → rest t a ≡ x ∷ rest t (e + 1)
+  pub rest-next : (x : ℕ) → Some x ≡ value_of (take (e - a) (drop a t)) → rest t a ≡ x ∷ rest t (e + 1)
   unfolding numbers_of leading
   rest-next x v = rw (word_next, ← v)
 
-  pub rest_stop : Other ≡ value_of (take (e - a) (drop a t)) → rest t a ≡ []
+  pub rest_stop : None ≡ value_of (take (e - a) (drop a t)) → rest t a ≡ []
   unfolding numbers_of leading
   rest_stop v = rw (word_next, ← v)
 

@@ -1,31 +1,29 @@
 -- Rules: how a line of stored answers reads. Bytes are numbers: 32 is the space, 45 '-', 120 'x', 48 to 57 the digits, 65 to 70 A to F.
-use Rattle.std.specs.Prelude.{◌≡◌, cond, List, [], ◌∷◌, ℕ, suc, min, ◌+◌, ◌-◌, ◌*◌, ◌^◌, eqb, ltb, length, drop, ℤ, pos, negsuc}
-use Rattle.words.specs.declared.Word.{Word}
-use Rattle.words.specs.declared.Word.TheVariants.{Number, Other}
+use Rattle.std.specs.Prelude.{◌≡◌, cond, List, [], ◌∷◌, Option, Some, None, ℕ, suc, min, ◌+◌, ◌-◌, ◌*◌, ◌^◌, eqb, ltb, length, drop, ℤ, pos, negsuc}
 
 -- the number of a digit, 16 for what is none
 unfoldable pub digit_of : ℕ → ℕ
 digit_of b = cond (ltb b 48) 16 (cond (ltb b 58) (b - 48) (cond (ltb b 65) 16 (cond (ltb b 71) (b - 55) 16)))
 
 -- digits to a base, after the number n that was read before them; a number of 2^60 or more takes no further digit
-unfoldable pub digits_after : ℕ → ℕ → List ℕ → Word
-digits_after base n [] = Number n
-digits_after base n (b ∷ r) = cond (ltb (digit_of b) base) (cond (ltb n (2 ^ 60)) (digits_after base (n * base + digit_of b) r) Other) Other
+unfoldable pub digits_after : ℕ → ℕ → List ℕ → Option ℕ
+digits_after base n [] = Some n
+digits_after base n (b ∷ r) = cond (ltb (digit_of b) base) (cond (ltb n (2 ^ 60)) (digits_after base (n * base + digit_of b) r) None) None
 
-unfoldable pub digits : ℕ → List ℕ → Word
-digits base [] = Other
+unfoldable pub digits : ℕ → List ℕ → Option ℕ
+digits base [] = None
 digits base (b ∷ r) = digits_after base 0 (b ∷ r)
 
 -- two's complement, down to -2^63
-unfoldable pub negated : Word → Word
-negated Other = Other
-negated (Number n) = cond (eqb n 0) (Number 0) (cond (ltb (2 ^ 63) n) Other (Number (2 ^ 64 - n)))
+unfoldable pub negated : Option ℕ → Option ℕ
+negated None = None
+negated (Some n) = cond (eqb n 0) (Some 0) (cond (ltb (2 ^ 63) n) None (Some (2 ^ 64 - n)))
 
-unfoldable pub value_of : List ℕ → Word
-value_of [] = Other
+unfoldable pub value_of : List ℕ → Option ℕ
+value_of [] = None
 value_of (b ∷ r) = cond (eqb b 45) (negated (digits 10 r)) (cond (eqb b 120) (digits 16 r) (digits 10 (b ∷ r)))
 
-abbrev pub ValueSays : List ℕ → Word → Type 0
+abbrev pub ValueSays : List ℕ → Option ℕ → Type 0
 ValueSays word r = r ≡ value_of word
 
 -- a byte before the first of some words
@@ -38,8 +36,8 @@ unfoldable pub index_of : ℕ → List ℕ → ℕ
 index_of b [] = 0
 index_of b (x ∷ r) = cond (eqb x b) 0 (suc (index_of b r))
 
-abbrev pub FindSays : List ℕ → ℕ → ℕ → ℕ → Type 0
-FindSays text from byte r = r ≡ from + index_of byte (drop from text)
+abbrev pub FindSays : List ℕ → ℕ → ℕ → Option ℕ → Type 0
+FindSays text from byte r = r ≡ cond (ltb (index_of byte (drop from text)) (length (drop from text))) (Some (from + index_of byte (drop from text))) None
 
 -- each space ends a word
 unfoldable pub words_of : List ℕ → List (List ℕ)
@@ -47,9 +45,9 @@ words_of [] = []
 words_of (b ∷ r) = cond (eqb b 32) ([] ∷ words_of r) (joined b (words_of r))
 
 -- the numbers before the first word that is none
-unfoldable pub leading : Word → List ℕ → List ℕ
-leading (Number n) ns = n ∷ ns
-leading Other ns = []
+unfoldable pub leading : Option ℕ → List ℕ → List ℕ
+leading (Some n) ns = n ∷ ns
+leading None ns = []
 
 unfoldable pub numbers_of : List (List ℕ) → List ℕ
 numbers_of [] = []

@@ -2,99 +2,65 @@
 // a decimal number, with '-' before a negative one, or x and the hexadecimal digits of a pattern.
 #![tactic(auto)]
 
-ghost use Rattle.std.specs.Prelude.{◌≡◌, ◌≤◌};
+ghost use Rattle.std.specs.Prelude.{◌≡◌, ◌≤◌, ◌<◌, Some, MatchOption};
 ghost use Rattle.words.specs.Words.{digit_of, digits, negated, ValueSays, NumbersSays, SignedSays, Signed32Says};
 
 pub mod scan;
 
-// What a word says.
-#[derive(Clone, Copy)]
-pub enum Word {
-    Number(u64),
-    Other,
-}
-
-fn wide(b: u8) -> u64
-    ensures { result ≡ b }
+// The number of a digit of the base.
+fn digit(b: u8, base: u64) -> Option<u64>
+    requires { base ≤ 16 }
+    ensures { MatchOption result (base ≤ digit_of b) (λ d. (d < base) × (d ≡ digit_of b)) }
 {
-    b as u64
-}
-
-// The number of a digit, or 16.
-fn digit(b: u8) -> u64
-    ensures { result ≡ digit_of b }
-{
-    let n = wide(b);
-    if n < 48 {
-        return 16;
-    }
-    if n < 58 {
-        return n - 48;
-    }
-    if n < 65 {
-        return 16;
-    }
-    if n < 71 {
-        return n - 55;
-    }
-    16
+    let n = match b {
+        b'0'..=b'9' => b - b'0',
+        b'A'..=b'F' => b - b'A' + 10,
+        _ => return None,
+    };
+    let d = u64::from(n);
+    if d < base { Some(d) } else { None }
 }
 
 // Digits to a base; nothing where there is none, or one that is not of the base, or one behind a number of
 // 2^60 or more, so that the number keeps to 64 bits.
-fn digits_to(text: &[u8], base: u64) -> Word
+fn digits_to(text: &[u8], base: u64) -> Option<u64>
     requires { base ≤ 16 }
     ensures { result ≡ digits base text.now }
 {
-    if text.len() == 0 {
-        return Word::Other;
+    if text.is_empty() {
+        return None;
     }
     let mut sum: u64 = 0;
-    let mut i = 0;
-    while i < text.len() {
-        let d = digit(text[i]);
-        if base <= d {
-            return Word::Other;
-        }
+    for b in text {
+        let d = digit(*b, base)?;
         if 0x1000_0000_0000_0000 <= sum {
-            return Word::Other;
+            return None;
         }
         sum = sum * base + d;
-        i += 1;
     }
-    Word::Number(sum)
+    Some(sum)
 }
 
 // The pattern of a number below 0, from its magnitude.
-fn negative(v: Word) -> Word
-    ensures { result ≡ negated v }
+fn negative(n: u64) -> Option<u64>
+    ensures { result ≡ negated (Some n) }
 {
-    let Word::Number(n) = v else {
-        return Word::Other;
-    };
-    if n == 0 {
-        return Word::Number(0);
-    }
     if 0x8000_0000_0000_0000 < n {
-        return Word::Other;
+        return None;
     }
-    Word::Number(0xffff_ffff_ffff_ffff - n + 1)
+    Some(n.wrapping_neg())
 }
 
 // The 64 bits that a word says, in two's complement.
-pub fn value(word: &[u8]) -> Word
+pub fn value(word: &[u8]) -> Option<u64>
     ensures { ValueSays word.now result }
 {
-    if word.len() == 0 {
-        return Word::Other;
+    match word {
+        [] => None,
+        [b'-', behind @ ..] => negative(digits_to(behind, 10)?),
+        [b'x', behind @ ..] => digits_to(behind, 16),
+        _ => digits_to(word, 10),
     }
-    if word[0] == b'-' {
-        return negative(digits_to(&word[1..], 10));
-    }
-    if word[0] == b'x' {
-        return digits_to(&word[1..], 16);
-    }
-    digits_to(word, 10)
 }
 
 // Puts the numbers that a text begins with into `out`, as many as there is room for, and answers how many.
@@ -104,9 +70,8 @@ pub fn numbers(text: &[u8], out: &mut [u64]) -> usize
     let mut n = 0;
     let mut a = 0;
     while a < text.len() {
-        let e = scan::find(text, a, b' ');
-        let v = value(&text[a..e]);
-        let Word::Number(x) = v else {
+        let e = scan::find(text, a, b' ').unwrap_or(text.len());
+        let Some(x) = value(&text[a..e]) else {
             return n;
         };
         if out.len() <= n {
@@ -123,21 +88,12 @@ pub fn numbers(text: &[u8], out: &mut [u64]) -> usize
 pub fn signed(bits: u64) -> i64
     ensures { SignedSays bits result }
 {
-    if bits < 0x8000_0000_0000_0000 {
-        return bits as i64;
-    }
-    -1 - ((0xffff_ffff_ffff_ffff - bits) as i64)
+    bits.cast_signed()
 }
 
 // The same where an i32 is wanted; 0 where none holds the number.
 pub fn signed32(bits: u64) -> i32
     ensures { Signed32Says bits result }
 {
-    if bits < 0x8000_0000 {
-        return bits as i32;
-    }
-    if bits < 0xffff_ffff_8000_0000 {
-        return 0;
-    }
-    -1 - ((0xffff_ffff_ffff_ffff - bits) as i32)
+    i32::try_from(signed(bits)).unwrap_or(0)
 }
