@@ -1,6 +1,6 @@
 -- Laws: the pattern of an f64 with its last 29 digits rounded off is that of the narrowed number, where f32 has as many digits for it.
 use Rattle.std.specs.Prelude.{◌≡◌, ℕ, suc, ◌+◌, ◌-◌, ◌*◌, ◌/◌, ◌%◌, ◌^◌, ◌<◌, ◌≤◌, Bool, true, false, not, ◌&&◌, ◌||◌, T, ◌⊎◌, ◌==◌, is_nan, nat_le, nat_lt, to_bits, refl, Float}
-use Rattle.std.proofs.Common.{sym, ap, ◌∙◌, subst, inl, inr, eq-or-lt_of_le, le_trans, lt_of_lt_of_le, mul_assoc, mul_right_comm, mul_comm, arith, eqb→eq, lit<, pow-add, pow_mono, shl_lt}
+use Rattle.std.proofs.Common.{sym, ap, ◌∙◌, subst, inl, inr, eq-or-lt_of_le, lt_of_lt_of_le, mul_assoc, mul_right_comm, arith, eqb→eq, lit<, pow-add, pow_mono, shl_lt}
 use Rattle.std.proofs.lemmas.Bool.{lt-leb}
 use Rattle.std.specs.Float.{nan, inf, fin, binary32, binary64}
 use Rattle.std.specs.Float.Ieee.{up, down, odd, units, fits, nan_bits, of_fields, of_bits, round}

@@ -4,7 +4,7 @@
 ghost use Rattle.std.specs.Prelude.{◌≡◌, ◌+◌, ◌-◌, ◌^◌, ◌<◌, ◌≤◌, T, if◌then◌else◌, nat_lt};
 ghost use Rattle.std.specs.Float.Ieee.Nearest.{closest};
 ghost use Rattle.float.specs.Narrowed.{NarrowSays, NarrowBitsSays};
-ghost use Rattle.float.specs.Within.{number, WithinSays, AllWithinSays, AllNumbersSays};
+ghost use Rattle.float.specs.Within.{number, all_numbers, WithinSays, AllWithinSays, AllNumbersSays};
 ghost use Rattle.float.specs.Marks.{MarksSays};
 ghost use Rattle.float.specs.Clamped.{Clamp01Says, Narrow01Says};
 ghost use Rattle.float.specs.Shortened.{shortened};
@@ -113,37 +113,35 @@ pub fn within(x: f32) -> bool
     (0.0 <= x) & (x <= 1.0)
 }
 
-// Every element is within 0..1. The first loop has no way out, so that it is vectorised; only a -0.0, or an element that is not
-// within, makes it look again.
+// Every element is within 0..1. Numbers have patterns without a choice, so the second loop is vectorised; only a -0.0, or an element
+// that is not within, makes it look again.
 pub fn all_within(xs: &[f32]) -> bool
     ensures { AllWithinSays xs.now result }
 {
-    let mut seen = 0u32;
-    let mut i = 0;
-    while i < xs.len() {
-        seen = seen | marks(xs[i]);
-        i += 1;
+    all_numbers(xs) && numbers_within(xs)
+}
+
+// The same, of numbers: up to the pattern of 1 a pattern is one of a float within 0..1.
+fn numbers_within(xs: &[f32]) -> bool
+    requires { T (all_numbers xs.now) }
+    ensures { AllWithinSays xs.now result }
+{
+    let mut most = 0u32;
+    for &x in xs {
+        most = most.max(f32::to_bits(x));
     }
-    if seen < 0x8000_0000 {
-        return true;
-    }
-    each_within(xs)
+    most <= 0x3f80_0000 || each_within(xs)
 }
 
 // The same, one by one.
 fn each_within(xs: &[f32]) -> bool
     ensures { AllWithinSays xs.now result }
 {
-    let mut ok = true;
-    let mut i = 0;
-    while i < xs.len() {
-        ok = ok & within(xs[i]);
-        i += 1;
-    }
-    ok
+    xs.iter().all(|&x| within(x))
 }
 
 // v's pattern, or all ones where v is not at most 1: the top bit is clear only where v is within 0..1.
+// Kept: the theorem MarksSays asks for a number. What a loop joins by `|` has to be one; an Option would be a test for each element.
 pub fn marks(v: f32) -> u32
     ensures { MarksSays v result }
 {
@@ -159,11 +157,8 @@ pub fn all_numbers(xs: &[f32]) -> bool
     ensures { AllNumbersSays xs.now result }
 {
     let mut ok = true;
-    let mut k = 0;
-    while k < xs.len() {
-        let x = xs[k];
+    for &x in xs {
         ok = ok & (x == x);
-        k += 1;
     }
     ok
 }
@@ -201,43 +196,31 @@ pub fn narrow01(q: f64) -> f32
     0.0 / 0.0
 }
 
+// Kept as four: the new form is no plainer: each is one call of the library's, and a trait over f32 and f64 would need a block for each.
 // The pattern of x; 7FC00000 for a NaN.
 pub fn bits32(x: f32) -> u32
     ensures { Bits32Says x result }
 {
-    if x != x {
-        return 0x7fc0_0000;
-    }
-    f32::to_bits(x)
+    std::num::f32_to_bits_with_nan(x)
 }
 
 // The pattern of x; 7FF8000000000000 for a NaN.
 pub fn bits64(x: f64) -> u64
     ensures { Bits64Says x result }
 {
-    if x != x {
-        return 0x7ff8_0000_0000_0000;
-    }
-    f64::to_bits(x)
+    std::num::f64_to_bits_with_nan(x)
 }
 
 // The f32 with the pattern b; a NaN for a NaN's.
-#[tactic(auto, using(crate::specs::Numbers::nan32, crate::specs::Numbers::above_nan, crate::specs::Numbers::upto_no_nan))]
 pub fn of_bits32(b: u32) -> f32
     ensures { OfBits32Says b result }
 {
-    if 0x7f80_0000 < b % 0x8000_0000 {
-        return 0.0 / 0.0;
-    }
-    f32::from_bits(b)
+    std::num::f32_from_bits_with_nan(b)
 }
 
 // The f64 with the pattern b; a NaN for a NaN's.
 pub fn of_bits64(b: u64) -> f64
     ensures { OfBits64Says b result }
 {
-    if 0x7ff0_0000_0000_0000 < b % 0x8000_0000_0000_0000 {
-        return 0.0 / 0.0;
-    }
-    f64::from_bits(b)
+    std::num::f64_from_bits_with_nan(b)
 }

@@ -6,6 +6,7 @@ use mathlib.Core.List.{List, [], ◌∷◌, ◌++◌}
 use Prim.Native.Nat.{ℕ, zero, suc, ◌+◌, ◌*◌, ◌<◌, ◌≤◌}
 use Rattle.std.proofs.Math.ListN.{take}
 use Rattle.std.specs.Float.Ieee.Fits.{and_i, and_l, and_r}
+use Rattle.std.specs.List.{list_all}
 use Rattle.laws.specs.Every.{every}
 use Rattle.laws.specs.Rows.{cut}
 
@@ -35,6 +36,12 @@ module _ {A : Type 0} (p : A → Bool) where
 
   pub every-end : (s : List A) (i : ℕ) (ok : Bool) → length s ≤ i → ok ≡ every p (take i s) → ok ≡ every p s
   every-end s i ok h e = e ∙ ap (every p) (take_all i s h)
+
+  -- the library's test, as `all` of an iterator answers it
+  pub every_is_all : (s : List A) → every p s ≡ list_all p s
+  unfolding every
+  every_is_all [] = refl
+  every_is_all (x ∷ s) = ap (λ (b : Bool). p x && b) (every_is_all s)
 
   -- each element, and back
   pub every-each : (s : List A) (k : ℕ) (d : A) → T (every p s) → k < length s → T (p (get_or s k d))

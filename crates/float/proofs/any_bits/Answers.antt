@@ -1,4 +1,4 @@
-use Rattle.std.proofs.Common.{◌≡◌, ℕ, ◌+◌, ◌<◌, ◌≤◌, false, ◌||◌, ltb, leb, sym, ap, ◌∙◌, subst, arith, rules}
+use Rattle.std.proofs.Common.{◌≡◌, ℕ, ◌+◌, ◌<◌, ◌≤◌, false, ◌||◌, ltb, leb, sym, ap, ◌∙◌, subst, arith}
 use Rattle.float.specs.Narrowing.{sgn, body, between, not_outside, at_nan, at_under, at_far, at_tiny, tiny_small}
 use Rattle.float.proofs.any_bits.Goals as goal
 

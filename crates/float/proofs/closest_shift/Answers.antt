@@ -1,4 +1,4 @@
-use Rattle.std.proofs.Common.{◌≡◌, ℕ, ◌+◌, ◌-◌, ◌*◌, ◌/◌, ◌%◌, ◌^◌, ◌≤◌, sym, ap, ◌∙◌, lt_of_le_of_lt, mod-eq_of_lt, one-mul, arith, lit<, pow_pos, pow_mono, rules}
+use Rattle.std.proofs.Common.{◌≡◌, ℕ, ◌+◌, ◌-◌, ◌*◌, ◌/◌, ◌%◌, ◌^◌, ◌≤◌, sym, ap, ◌∙◌, lt_of_le_of_lt, mod-eq_of_lt, one-mul, arith, lit<, pow_pos, pow_mono}
 use Rattle.float.specs.Rounding.{closest_shift}
 use Rattle.float.proofs.closest_shift.Goals as goal
 

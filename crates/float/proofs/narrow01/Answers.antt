@@ -1,8 +1,8 @@
-use Rattle.std.proofs.Common.{◌≡◌, ℕ, ◌<◌, false, not, T, sym, ap, ◌∙◌, subst, arith, rules}
-use lib.Ieee.{Float, binary32, binary64, fits, lt, nan_bits, of_bits, to_bits, round}
+use Rattle.std.proofs.Common.{◌≡◌, ℕ, ◌<◌, not, T, sym, ap, ◌∙◌, subst, arith}
+use lib.Ieee.{binary32, binary64, fits, nan_bits, of_bits, to_bits, round}
 use lib.Ieee.Bits.{of_bits-to_bits}
 use Rattle.laws.specs.Bools.{true_is}
-use Rattle.float.specs.Within.{nought, number}
+use Rattle.float.specs.Within.{number}
 use Rattle.float.specs.Clamped.{clamped}
 use Rattle.float.specs.ClampLaws.{clamped_upto, clamped-above, clamped_nan, beside-one, narrowed-one}
 use Rattle.float.specs.Narrowed.{narrowed}
