@@ -20,9 +20,10 @@ pub extern "C" fn sillbadger_paint(
     let o = crossing::outline(shape);
     match o {
         Some(kind) => {
-            paint::paint(
+            let answer = paint::paint(
                 kind, opacity, red, green, blue, w as usize, h as usize, target, canvas, table,
-            )
+            );
+            refusal::number_of(answer)
         }
         None => crate::no_shape(w, h),
     }

@@ -1,5 +1,5 @@
 -- Laws: a taken call has the sizes of what is lent; a paint call keeps the table; rows outside the reach stay; two calls and a build.
-use Rattle.std.specs.Prelude.{◌≡◌, Bool, true, not, ◌||◌, cond, List, ℕ, ◌+◌, ◌*◌, ◌≤◌, ◌<◌, T, eqb, pos, length, Float}
+use Rattle.std.specs.Prelude.{◌≡◌, Bool, true, not, ◌||◌, cond, List, Result, ⊤, ℕ, ◌+◌, ◌*◌, ◌≤◌, ◌<◌, T, eqb, pos, length, Float}
 use Rattle.std.proofs.Math.Path.{refl}
 use Rattle.std.proofs.Common.{sym, ap, ap₂, ◌∙◌, subst, ⊎_elim, mul_comm, arith}
 use Rattle.std.proofs.Math.Bool.{false, or-true}
@@ -15,6 +15,9 @@ use Rattle.laws.specs.RowSums.{picture_of}
 use Rattle.laws.specs.RowSumLaws.{canvas_sum_same}
 use Rattle.float.specs.Within.{within, all_within}
 use Rattle.refusal.specs.Refusals.{Sized, bad_size}
+use Rattle.refusal.specs.declared.Refusal.{Refusal}
+use Rattle.refusal.specs.Outcomes.{number_of}
+use Rattle.refusal.specs.OutcomeLaws.{number_of-injective}
 use Rattle.refusal.specs.RefusalLaws.{sized}
 use Rattle.refusal.specs.ThreeTests.{passed, at_none}
 use Rattle.refusal.specs.Lengths.{bad_picture, bad_table}
@@ -210,16 +213,16 @@ after_is c target canvas table newCanvas newTable r e = by (ℕ_discrete r 0)
     by (yes z) = rw (eq-eqb (call_refusal c target canvas table) 0 (sym e.answer ∙ z)) (e.done z).picture
     by (no n) = rw (ne_eqb (call_refusal c target canvas table) 0 (λ y. n (e.answer ∙ y))) (e.refused n).0
 
-pub two-done : (first second : Call) (w h : ℕ) (target canvas table between sums newCanvas newTable fresh newFresh : List Float) (a b d : ℕ)
+pub two-done : (first second : Call) (w h : ℕ) (target canvas table between sums newCanvas newTable fresh newFresh : List Float) (a b d : Result ⊤ Refusal)
     → Kept w h target canvas table → length fresh ≡ length table → T (fits binary32 first.opacity) → T (fits binary32 second.opacity)
-    → CallSays first target canvas table a between sums → CallSays second target between sums b newCanvas newTable → BuildSays target newCanvas w h fresh d newFresh
+    → CallSays first target canvas table (number_of a) between sums → CallSays second target between sums (number_of b) newCanvas newTable → BuildSays target newCanvas w h fresh (number_of d) newFresh
     → TwoCallsSays first second w h target canvas table (record { first = a; second = b; afresh = d }) newCanvas newTable newFresh
 two-done first second w h target canvas table between sums newCanvas newTable fresh newFresh a b d k room f g one two build = record {
   first-number = one.answer;
   second-number = two.answer ∙ ap₂ (λ (m n : ℕ). paint_refusal second.kind second.opacity second.red second.green second.blue second.w second.h (length target) m n) canvases tables;
   afresh_number = again.0;
-  picture = after_is second target between sums newCanvas newTable b two
-      ∙ ap₂ (λ (n : ℕ) (l : List Float). cond (eqb (paint_refusal second.kind second.opacity second.red second.green second.blue second.w second.h (length target) (length l) n) 0) (painted second.kind second.opacity second.red second.green second.blue second.w second.h l) l) tables (after_is first target canvas table between sums a one);
+  picture = after_is second target between sums newCanvas newTable (number_of b) two
+      ∙ ap₂ (λ (n : ℕ) (l : List Float). cond (eqb (paint_refusal second.kind second.opacity second.red second.green second.blue second.w second.h (length target) (length l) n) 0) (painted second.kind second.opacity second.red second.green second.blue second.w second.h l) l) tables (after_is first target canvas table between sums (number_of a) one);
   kept = after;
   afresh = again.1;
 }
@@ -234,10 +237,10 @@ two-done first second w h target canvas table between sums newCanvas newTable fr
     end = record { canvas = newCanvas; table = newTable }
 
     then : Kept w h target between sums
-    then = keeps w h target first start middle (record { single = f; number = a; says = one }) k
+    then = keeps w h target first start middle (record { single = f; number = number_of a; says = one }) k
 
     after : Kept w h target newCanvas newTable
-    after = keeps w h target second middle end (record { single = g; number = b; says = two }) then
+    after = keeps w h target second middle end (record { single = g; number = number_of b; says = two }) then
 
     canvases : length between ≡ length canvas
     canvases = then.canvas-size ∙ sym k.canvas-size
@@ -245,8 +248,8 @@ two-done first second w h target canvas table between sums newCanvas newTable fr
     tables : length sums ≡ length table
     tables = then.built.size ∙ sym k.built.size
 
-    again : (d ≡ 0) × (newFresh ≡ newTable)
-    again = kept_afresh w h target newCanvas newTable after fresh d newFresh (room ∙ sym tables ∙ then.built.size ∙ sym after.built.size) build
+    again : (number_of d ≡ 0) × (newFresh ≡ newTable)
+    again = kept_afresh w h target newCanvas newTable after fresh (number_of d) newFresh (room ∙ sym tables ∙ then.built.size ∙ sym after.built.size) build
 
 pub TwoCallsSays-unique : (first second : Call) (w h : ℕ) (target canvas table : List Float) (r q : Numbers) (c d s t f g : List Float)
     → TwoCallsSays first second w h target canvas table r c s f → TwoCallsSays first second w h target canvas table q d t g → (r ≡ q) × (c ≡ d) × (s ≡ t) × (f ≡ g)
@@ -254,8 +257,11 @@ TwoCallsSays-unique first second w h target canvas table r q c d s t f g p o = (
   where
     numbers : r ≡ q
     numbers =
-        ap₂ (λ (a b : ℕ). record { first = a; second = b; afresh = r.afresh }) (p.first-number ∙ sym o.first-number) (p.second-number ∙ sym o.second-number)
-        ∙ ap (λ (a : ℕ). record { first = q.first; second = q.second; afresh = a }) (p.afresh_number ∙ sym o.afresh_number)
+        ap₂ (λ (a b : Result ⊤ Refusal). record { first = a; second = b; afresh = r.afresh })
+        (number_of-injective r.first q.first (p.first-number ∙ sym o.first-number))
+        (number_of-injective r.second q.second (p.second-number ∙ sym o.second-number))
+        ∙ ap (λ (a : Result ⊤ Refusal). record { first = q.first; second = q.second; afresh = a })
+        (number_of-injective r.afresh q.afresh (p.afresh_number ∙ sym o.afresh_number))
 
     pictures : c ≡ d
     pictures = p.picture ∙ sym o.picture

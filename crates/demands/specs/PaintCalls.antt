@@ -7,6 +7,7 @@ use Rattle.laws.specs.PixelSums.{span_sum}
 use Rattle.laws.specs.RowSums.{picture_of}
 use Rattle.float.specs.Within.{all_within}
 use Rattle.refusal.specs.Refusals.{Sized}
+use Rattle.refusal.specs.Outcomes.{number_of}
 use Rattle.cover.specs.declared.Kind.{Kind}
 use Rattle.cover.specs.Cover.{covered, reach}
 use Rattle.picture.specs.Painting.{painted}
@@ -82,9 +83,9 @@ after_call c target canvas table =
     cond (eqb (call_refusal c target canvas table) 0) (painted c.kind c.opacity c.red c.green c.blue c.w c.h canvas) canvas
 
 pub record TwoCallsSays (first second : Call) (w h : ℕ) (target canvas table : List Float) (r : Numbers) (newCanvas newTable newFresh : List Float) : Type 0 where
-  pub first-number : r.first ≡ call_refusal first target canvas table
-  pub second-number : r.second ≡ call_refusal second target canvas table
-  pub afresh_number : r.afresh ≡ 0
+  pub first-number : number_of r.first ≡ call_refusal first target canvas table
+  pub second-number : number_of r.second ≡ call_refusal second target canvas table
+  pub afresh_number : number_of r.afresh ≡ 0
   pub picture : newCanvas ≡ after_call second target (after_call first target canvas table) table
   pub kept : Kept w h target newCanvas newTable
   pub afresh : newFresh ≡ newTable

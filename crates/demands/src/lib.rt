@@ -2,9 +2,11 @@
 #![tactic(auto)]
 
 ghost use Rattle.std.specs.Prelude.{◌≡◌, length};
+ghost use Rattle.refusal.specs.Outcomes.{number_of};
 ghost use Rattle.demands.specs.PaintCalls.{CallSays, Kept, TwoCallsSays};
 
 use cover::Kind;
+use refusal::Refusal;
 
 // A paint call: shape, opacity, colour, and its own sizes.
 #[derive(Clone, Copy)]
@@ -21,9 +23,9 @@ pub struct Call {
 // What two paint calls and a build answered.
 #[derive(Clone, Copy)]
 pub struct Numbers {
-    pub first: u8,
-    pub second: u8,
-    pub afresh: u8,
+    pub first: Result<(), Refusal>,
+    pub second: Result<(), Refusal>,
+    pub afresh: Result<(), Refusal>,
 }
 
 // Two paint calls, taken or refused, on a table that was built; then a table is built afresh beside it.
@@ -41,18 +43,18 @@ pub fn two_calls(
     requires room { length fresh.old ≡ length table.old }
     ensures { TwoCallsSays first second w h target.now canvas.old table.old result canvas.new table.new fresh.new }
 {
-    let a = run_call(first, target, canvas, table);
-    let b = run_call(second, target, canvas, table);
-    let c = table::build(target, canvas, w, h, fresh);
+    let first = run_call(first, target, canvas, table);
+    let second = run_call(second, target, canvas, table);
+    let afresh = table::build(target, canvas, w, h, fresh);
     Numbers {
-        first: a,
-        second: b,
-        afresh: c,
+        first,
+        second,
+        afresh,
     }
 }
 
-fn run_call(c: Call, target: &[f32], canvas: &mut [f32], table: &mut [f64]) -> u8
-    ensures { CallSays c target.now canvas.old table.old result canvas.new table.new }
+fn run_call(c: Call, target: &[f32], canvas: &mut [f32], table: &mut [f64]) -> Result<(), Refusal>
+    ensures { CallSays c target.now canvas.old table.old (number_of result) canvas.new table.new }
 {
     let kind = c.kind;
     paint::paint(

@@ -19,10 +19,6 @@ paint_refusal kind opacity red green blue w h target canvas table =
     ∷ colour_if (bad_colour red green blue)
     ∷ [])
 
--- the first two of them
-abbrev pub lengths_refusal : ℕ → ℕ → ℕ → ℕ → ℕ → ℕ
-lengths_refusal w h target canvas table = lowest (size_if (bad_size w h) ∷ length_if (bad_lengths w h target canvas table) ∷ [])
-
 -- a taken call: the picture painted, and the table updated for it over the shape's row reach
 pub record Painted (kind : Kind) (opacity red green blue : Float) (w h : ℕ) (target canvas table newCanvas newTable : List Float) : Type 0 where
   pub picture : newCanvas ≡ painted kind opacity red green blue w h canvas

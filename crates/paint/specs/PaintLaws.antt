@@ -24,9 +24,9 @@ use Rattle.cover.specs.CoverLaws.{in_reach}
 use Rattle.picture.specs.Painting.{BlendSays}
 use Rattle.picture.specs.PaintingLaws.{length-painted, painted-nothing}
 use Rattle.picture.specs.Pixels.{bad_colour}
-use Rattle.table.specs.Table.{bad_lengths, redone, Updated, update_refusal, UpdateCanvasRowsSays}
+use Rattle.table.specs.Table.{bad_lengths, lengths_refusal, redone, Updated, update_refusal, UpdateCanvasRowsSays}
 use Rattle.table.specs.TableLaws.{updated-only}
-use Rattle.paint.specs.Paint.{paint_refusal, lengths_refusal, Painted, PaintSays}
+use Rattle.paint.specs.Paint.{paint_refusal, Painted, PaintSays}
 
 -- ---- sizes and lengths that passed
 pub record Lengths (w h target canvas table : ℕ) : Type 0 where

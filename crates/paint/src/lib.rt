@@ -3,14 +3,17 @@
 
 ghost use Rattle.std.specs.Prelude.{◌≡◌, false, true, ◌*◌, length};
 ghost use Rattle.refusal.specs.Refusals.{Sized};
+ghost use Rattle.refusal.specs.Outcomes.{number_of};
 ghost use Rattle.cover.specs.Cover.{bad_places, RowReachSays};
 ghost use Rattle.picture.specs.Painting.{BlendSays};
-ghost use Rattle.paint.specs.Paint.{lengths_refusal, paint_refusal, Painted, PaintSays};
+ghost use Rattle.table.specs.Table.{lengths_refusal};
+ghost use Rattle.paint.specs.Paint.{paint_refusal, Painted, PaintSays};
 
 use cover::{Kind, Reach};
+use refusal::Refusal;
 
-// Refusals: 1 size, 2 a length, 4 place, 5 opacity, 6 colour; then no number of `canvas` or `table` has changed. 0 is done. A usual
-// call is tested in one go, and where the shape reaches no row it does nothing else.
+// Refusals: size, a length, place, opacity, colour; then no number of `canvas` or `table` has changed. A usual call is tested in one
+// go, and where the shape reaches no row it does nothing else.
 pub fn paint(
     kind: Kind,
     opacity: f32,
@@ -22,8 +25,8 @@ pub fn paint(
     target: &[f32],
     canvas: &mut [f32],
     table: &mut [f64],
-) -> u8
-    ensures { PaintSays kind opacity red green blue w h target.now canvas.old table.old result canvas.new table.new }
+) -> Result<(), Refusal>
+    ensures { PaintSays kind opacity red green blue w h target.now canvas.old table.old (number_of result) canvas.new table.new }
 {
     if usual(
         kind,
@@ -42,11 +45,11 @@ pub fn paint(
         let last = reach.last;
         // an end above the picture redoes every row
         if (last < first) & (0 <= last) {
-            return 0;
+            return Ok(());
         }
         let same = anew(kind);
         paint_both(same, opacity, red, green, blue, w, h, target, canvas, table);
-        return 0;
+        return Ok(());
     }
     let same = anew(kind);
     tested_paint(same, opacity, red, green, blue, w, h, target, canvas, table)
@@ -78,7 +81,7 @@ fn usual(
 ) -> bool
     ensures { result ≡ true → paint_refusal kind opacity red green blue w h target canvas table ≡ 0 }
 {
-    if lengths_refusal(w, h, target, canvas, table) != 0 {
+    if table::lengths_tested(w, h, target, canvas, table).is_err() {
         return false;
     }
     float::within(opacity) & !picture::bad_colour(red, green, blue) & !cover::bad_places(kind)
@@ -96,10 +99,10 @@ fn tested_paint(
     target: &[f32],
     canvas: &mut [f32],
     table: &mut [f64],
-) -> u8
-    ensures { PaintSays kind opacity red green blue w h target.now canvas.old table.old result canvas.new table.new }
+) -> Result<(), Refusal>
+    ensures { PaintSays kind opacity red green blue w h target.now canvas.old table.old (number_of result) canvas.new table.new }
 {
-    let number = paint_refusal(
+    tested(
         kind,
         opacity,
         red,
@@ -110,35 +113,13 @@ fn tested_paint(
         target.len(),
         canvas.len(),
         table.len(),
-    );
-    if number != 0 {
-        return number;
-    }
+    )?;
     paint_both(kind, opacity, red, green, blue, w, h, target, canvas, table);
-    0
-}
-
-// Size, then the lengths of what is lent.
-fn lengths_refusal(w: usize, h: usize, target: usize, canvas: usize, table: usize) -> u8
-    ensures { result ≡ lengths_refusal w h target canvas table }
-{
-    if refusal::bad_size(w, h) {
-        return refusal::SIZE;
-    }
-    if refusal::bad_picture(w, h, target) {
-        return refusal::LENGTH;
-    }
-    if refusal::bad_picture(w, h, canvas) {
-        return refusal::LENGTH;
-    }
-    if refusal::bad_table(w, h, table) {
-        return refusal::LENGTH;
-    }
-    0
+    Ok(())
 }
 
 // Every test, in the order of the numbers.
-fn paint_refusal(
+fn tested(
     kind: Kind,
     opacity: f32,
     red: f32,
@@ -149,23 +130,20 @@ fn paint_refusal(
     target: usize,
     canvas: usize,
     table: usize,
-) -> u8
-    ensures { result ≡ paint_refusal kind opacity red green blue w h target canvas table }
+) -> Result<(), Refusal>
+    ensures { number_of result ≡ paint_refusal kind opacity red green blue w h target canvas table }
 {
-    let number = lengths_refusal(w, h, target, canvas, table);
-    if number != 0 {
-        return number;
-    }
+    table::lengths_tested(w, h, target, canvas, table)?;
     if cover::bad_places(kind) {
-        return refusal::PLACE;
+        return Err(Refusal::Place);
     }
     if !float::within(opacity) {
-        return refusal::OPACITY;
+        return Err(Refusal::Opacity);
     }
     if picture::bad_colour(red, green, blue) {
-        return refusal::COLOUR;
+        return Err(Refusal::Colour);
     }
-    0
+    Ok(())
 }
 
 // The picture, then the table. The reach's own ends are handed on, so an end above the picture redoes every row.
@@ -187,7 +165,7 @@ fn paint_both(
 {
     let reach = cover::row_reach(kind, h);
     blend_reached(kind, opacity, red, green, blue, w, h, reach, canvas);
-    table::update_canvas_rows(target, canvas, w, h, table, reach.first, reach.last);
+    let _ = table::update_canvas_rows(target, canvas, w, h, table, reach.first, reach.last);
 }
 
 // A shape that reaches no row has no pixel: then not even its runs are worked out.

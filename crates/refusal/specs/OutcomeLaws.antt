@@ -1,6 +1,8 @@
 -- Laws: no refusal has the number 0, no two have the same, and so an answer is known from its number and value.
-use Rattle.std.specs.Prelude.{◌≡◌, ℕ, cond, eqb, Result, Ok, Err, ⊤}
+use Rattle.std.specs.Prelude.{◌≡◌, true, false, ℕ, cond, eqb, Result, Ok, Err, ⊤}
 use Rattle.std.proofs.Common.{refl, sym, ap, ◌∙◌, arith}
+use Rattle.std.specs.Result.{is_ok, is_err}
+use Rattle.laws.specs.Fit.{no_both}
 use Rattle.refusal.specs.declared.Refusal.{Refusal}
 use Rattle.refusal.specs.declared.Refusal.TheVariants.{Size, Length, Count, Place, Opacity, Colour, Pixel, Malformed}
 use Rattle.refusal.specs.Outcomes.{number, NumberSays, Outcome, Done, Refused, outcome, number_of, NumberOfSays}
@@ -37,6 +39,15 @@ back Malformed = refl
 
 pub number_injective : (e f : Refusal) → number e ≡ number f → e ≡ f
 number_injective e f h = sym (back e) ∙ ap of_number h ∙ back f
+
+-- the number of an answer that was looked at
+pub number-of-ok : (r : Result ⊤ Refusal) → is_ok r ≡ true → number_of r ≡ 0
+number-of-ok (Ok u) e = refl
+number-of-ok (Err f) e = no_both e refl
+
+pub number-of-no-err : (r : Result ⊤ Refusal) → is_err r ≡ false → number_of r ≡ 0
+number-of-no-err (Ok u) e = refl
+number-of-no-err (Err f) e = no_both refl e
 
 -- two answers of the same number are equal
 pub number_of-injective : (r s : Result ⊤ Refusal) → number_of r ≡ number_of s → r ≡ s

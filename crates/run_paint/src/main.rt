@@ -2,7 +2,8 @@
 #![tactic(auto)]
 
 use cover::Kind;
-use demands::Call;
+use demands::{Call, Numbers};
+use refusal::Refusal;
 use std::io;
 
 // What stands in a table before a call, to count what it writes.
@@ -63,7 +64,7 @@ fn rows_redone(
     let mut canvas = [0.0f32; 36];
     figures::slope(&mut canvas, 0.9, -0.02);
     let mut marked = [MARK; 225];
-    paint::paint(
+    let _ = paint::paint(
         kind,
         opacity,
         red,
@@ -84,14 +85,14 @@ fn slopes(target: &mut [f32], canvas: &mut [f32]) {
     figures::slope(canvas, 0.9, -0.02);
 }
 
-fn named(rt: &impl Print, name: &str, no: u8) -> io::Result<()> {
+fn named(rt: &impl Print, name: &str, no: Result<(), Refusal>) -> io::Result<()> {
     show::text(rt, name)?;
-    labelled(rt, ": ", no as usize)
+    labelled(rt, ": ", refusal::number_of(no) as usize)
 }
 
 fn beside_fresh(rt: &impl Print, target: &[f32], canvas: &[f32], places: &[f64]) -> io::Result<()> {
     let mut fresh = [0.0; 225];
-    table::build(target, canvas, 4, 3, &mut fresh);
+    let _ = table::build(target, canvas, 4, 3, &mut fresh);
     verdict(rt, places, &fresh)?;
     figures::numbers(rt, canvas, 12)
 }
@@ -109,7 +110,7 @@ fn stroke(
     let mut canvas = [0.0f32; 36];
     slopes(&mut target, &mut canvas);
     let mut places = [0.0; 225];
-    table::build(&target, &canvas, 4, 3, &mut places);
+    let _ = table::build(&target, &canvas, 4, 3, &mut places);
     let no = paint::paint(
         kind,
         opacity,
@@ -188,14 +189,24 @@ fn strokes_past_an_edge(rt: &impl Print) -> io::Result<()> {
 
 // ---- refusals: circle (cx, 1) r 1, a colour's red, and what is lent
 
-fn counts(rt: &impl Print, no: u8, canvas: usize, places: usize) -> io::Result<()> {
-    labelled(rt, ": ", no as usize)?;
+fn counts(
+    rt: &impl Print,
+    no: Result<(), Refusal>,
+    canvas: usize,
+    places: usize,
+) -> io::Result<()> {
+    labelled(rt, ": ", refusal::number_of(no) as usize)?;
     labelled(rt, ", changed ", canvas)?;
     labelled(rt, " and ", places)?;
     show::text(rt, "\n")
 }
 
-fn answer(rt: &impl Print, no: u8, canvas: &[f32], places: &[f64]) -> io::Result<()> {
+fn answer(
+    rt: &impl Print,
+    no: Result<(), Refusal>,
+    canvas: &[f32],
+    places: &[f64],
+) -> io::Result<()> {
     let marks = [MARK; 240];
     counts(rt, no, changed(canvas), figures::differing(places, &marks))
 }
@@ -371,10 +382,14 @@ fn circle(cx: i32, cy: i32, r: i32, opacity: f32, w: usize, h: usize) -> Call {
     }
 }
 
-fn both_answers(rt: &impl Print, first: u8, second: u8, afresh: u8) -> io::Result<()> {
-    labelled(rt, "two calls: ", first as usize)?;
-    labelled(rt, " ", second as usize)?;
-    labelled(rt, " ", afresh as usize)
+fn both_answers(rt: &impl Print, answers: Numbers) -> io::Result<()> {
+    labelled(
+        rt,
+        "two calls: ",
+        refusal::number_of(answers.first) as usize,
+    )?;
+    labelled(rt, " ", refusal::number_of(answers.second) as usize)?;
+    labelled(rt, " ", refusal::number_of(answers.afresh) as usize)
 }
 
 fn both(rt: &impl Print, first: Call, second: Call) -> io::Result<()> {
@@ -383,8 +398,7 @@ fn both(rt: &impl Print, first: Call, second: Call) -> io::Result<()> {
     slopes(&mut target, &mut canvas);
     let mut places = [0.0; 225];
     let mut fresh = [0.0; 225];
-    let no = table::build(&target, &canvas, 4, 3, &mut places);
-    if no == 0 {
+    if table::build(&target, &canvas, 4, 3, &mut places).is_ok() {
         let n = demands::two_calls(
             first,
             second,
@@ -395,7 +409,7 @@ fn both(rt: &impl Print, first: Call, second: Call) -> io::Result<()> {
             &mut places,
             &mut fresh,
         );
-        both_answers(rt, n.first, n.second, n.afresh)?;
+        both_answers(rt, n)?;
         verdict(rt, &places, &fresh)?;
     }
     Ok(())

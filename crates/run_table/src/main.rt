@@ -1,6 +1,7 @@
 // A small table's numbers, document 01's figures of an update, and the refusals of both calls, several wrong at once.
 #![tactic(auto)]
 
+use refusal::Refusal;
 use std::io;
 use sums::ShapeSums;
 
@@ -13,9 +14,9 @@ fn labelled(rt: &impl Print, label: &str, n: usize) -> io::Result<()> {
 }
 
 // How many numbers of a marked table were written, beside the call's number.
-fn answer(rt: &impl Print, no: u8, table: &[f64]) -> io::Result<()> {
+fn answer(rt: &impl Print, no: Result<(), Refusal>, table: &[f64]) -> io::Result<()> {
     let marks = [MARK; 150];
-    labelled(rt, ": ", no as usize)?;
+    labelled(rt, ": ", refusal::number_of(no) as usize)?;
     labelled(rt, ", numbers written ", figures::differing(table, &marks))?;
     show::text(rt, "\n")
 }
@@ -47,12 +48,17 @@ fn rows_shown(
     row_shown(rt, 2, &a[90..135], &b[90..135], &c[90..135])
 }
 
-fn update_heading(rt: &impl Print, ymin: i32, ymax: i32, no: u8) -> io::Result<()> {
+fn update_heading(
+    rt: &impl Print,
+    ymin: i32,
+    ymax: i32,
+    no: Result<(), Refusal>,
+) -> io::Result<()> {
     show::text(rt, "update ")?;
     show::signed32(rt, ymin)?;
     show::text(rt, " to ")?;
     show::signed32(rt, ymax)?;
-    labelled(rt, ": ", no as usize)?;
+    labelled(rt, ": ", refusal::number_of(no) as usize)?;
     show::text(rt, ", redone")
 }
 
@@ -68,11 +74,11 @@ fn update(rt: &impl Print, ymin: i32, ymax: i32) -> io::Result<()> {
     let mut changed = [0.0f32; 18];
     slopes(&mut target, &mut canvas, &mut changed);
     let mut old = [0.0; 135];
-    table::build(&target, &canvas, 2, 3, &mut old);
+    let _ = table::build(&target, &canvas, 2, 3, &mut old);
     let mut new = old;
     let no = table::update_canvas_rows(&target, &changed, 2, 3, &mut new, ymin, ymax);
     let mut fresh = [0.0; 135];
-    table::build(&target, &changed, 2, 3, &mut fresh);
+    let _ = table::build(&target, &changed, 2, 3, &mut fresh);
     update_heading(rt, ymin, ymax, no)?;
     rows_shown(rt, &old, &new, &fresh)?;
     show::text(rt, "\n")
@@ -307,14 +313,14 @@ fn small(rt: &impl Print) -> io::Result<()> {
     let target = [0.1f32, 0.2, 0.3, 0.7, 0.9, -0.0];
     let canvas = [0.5f32, 0.25, -0.0, 0.3, 0.6, 1.0];
     let mut places = [7.0; 45];
-    table::build(&target, &canvas, 2, 1, &mut places);
+    let _ = table::build(&target, &canvas, 2, 1, &mut places);
     show::text(rt, "built\n")?;
     three_places(rt, &places)?;
     span(rt, &places, 0, 1)?;
     span(rt, &places, 0, 2)?;
     span(rt, &places, 1, 2)?;
     let changed = [0.9f32, 0.8, 0.7, 0.6, float::of_bits32(0x7fc0_0000), 0.4];
-    table::update_canvas_rows(&target, &changed, 2, 1, &mut places, 0, 0);
+    let _ = table::update_canvas_rows(&target, &changed, 2, 1, &mut places, 0, 0);
     show::text(rt, "updated, with a NaN\n")?;
     three_places(rt, &places)
 }
@@ -324,7 +330,7 @@ fn tall(rt: &impl Print) -> io::Result<()> {
     let target = [0.1f32, 0.2, 0.3, 0.7, 0.9, -0.0];
     let canvas = [0.5f32, 0.25, -0.0, 0.3, 0.6, 1.0];
     let mut places = [7.0; 60];
-    table::build(&target, &canvas, 1, 2, &mut places);
+    let _ = table::build(&target, &canvas, 1, 2, &mut places);
     show::text(rt, "built, 2 rows\n")?;
     three_places(rt, &places[0..45])?;
     place(rt, &places[45..60])

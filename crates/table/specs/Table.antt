@@ -50,6 +50,13 @@ unfoldable pub update_refusal : List Float → List Float → ℕ → ℕ → Li
 update_refusal target canvas w h table =
     lowest (size_if (bad_size w h) ∷ length_if (bad_lengths w h (length target) (length canvas) (length table)) ∷ [])
 
+-- the tests on numbers alone
+abbrev pub lengths_refusal : ℕ → ℕ → ℕ → ℕ → ℕ → ℕ
+lengths_refusal w h target canvas table = lowest (size_if (bad_size w h) ∷ length_if (bad_lengths w h target canvas table) ∷ [])
+
+abbrev pub LengthsTestedSays : ℕ → ℕ → ℕ → ℕ → ℕ → ℕ → Type 0
+LengthsTestedSays w h target canvas table r = r ≡ lengths_refusal w h target canvas table
+
 -- what the calls promise: the number r, and of the table, old as it was handed in, new as it is left
 pub record BuildSays (target canvas : List Float) (w h : ℕ) (old : List Float) (r : ℕ) (new : List Float) : Type 0 where
   pub answer : r ≡ build_refusal target canvas w h old

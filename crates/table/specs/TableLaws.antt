@@ -5,7 +5,7 @@ use Rattle.std.proofs.Math.Decide.{ℕ_discrete}
 use Rattle.laws.specs.RowSumLaws.{redone-fresh, kept_target}
 use Rattle.sums.specs.declared.ShapeSums.{ShapeSums}
 use Rattle.table.specs.Layout.{Series, of_target, of_canvas, entry}
-use Rattle.table.specs.Table.{f64_sums, picture, Table, redone, Updated, BuildSays, UpdateCanvasRowsSays, AddSpanSays, ReadPlaceSays}
+use Rattle.table.specs.Table.{f64_sums, picture, Table, redone, Updated, LengthsTestedSays, BuildSays, UpdateCanvasRowsSays, AddSpanSays, ReadPlaceSays}
 use Rattle.table.specs.LayoutLaws.{entries_same}
 use Rattle.table.specs.FillLaws.{sum_of}
 use Rattle.table.specs.TestLaws.{table_size_lem}
@@ -49,6 +49,9 @@ module _ (w h : ℕ) (target changed : List Float) (ymin ymax : ℤ) (old new : 
 
 same_number : {r s k : ℕ} → r ≡ k → s ≡ k → r ≡ 0 → s ≡ 0
 same_number p q z = q ∙ sym p ∙ z
+
+pub LengthsTestedSays-unique : (w h target canvas table r s : ℕ) → LengthsTestedSays w h target canvas table r → LengthsTestedSays w h target canvas table s → r ≡ s
+LengthsTestedSays-unique w h target canvas table r s p q = p ∙ sym q
 
 module _ (target canvas : List Float) (w h : ℕ) (old : List Float) (r s : ℕ) (a b : List Float) where
   pub BuildSays-unique : BuildSays target canvas w h old r a → BuildSays target canvas w h old s b → (r ≡ s) × (a ≡ b)

@@ -1,14 +1,13 @@
 // The table of prefix sums: for each row of a picture w + 1 places of fifteen sums, and what reads them.
 #![tactic(auto)]
 
-ghost use Rattle.std.specs.Prelude.{◌≡◌, true, false, ◌||◌, [], ◌∷◌, ℕ, ◌+◌, ◌-◌, ◌*◌, ◌≤◌, ◌<◌, ◌^◌, leb, ltb, length, get_or, pos};
+ghost use Rattle.std.specs.Prelude.{◌≡◌, true, false, ◌||◌, ℕ, ◌+◌, ◌-◌, ◌*◌, ◌≤◌, ◌<◌, ◌^◌, leb, ltb, length, get_or, pos};
 ghost use Rattle.std.specs.Float.{nan};
 ghost use Rattle.std.specs.Int.Signed.{le_z, lt_z};
 ghost use Rattle.laws.specs.Rows.{cut, put_row, put_rows};
-ghost use Rattle.refusal.specs.Refusals.{lowest, size_if, length_if, bad_size};
 ghost use Rattle.refusal.specs.Outcomes.{number_of};
 ghost use Rattle.sums.specs.Sums.{three};
-ghost use Rattle.table.specs.Table.{bad_lengths, BuildSays, UpdateCanvasRowsSays, AddSpanSays, ReadPlaceSays};
+ghost use Rattle.table.specs.Table.{BuildSays, LengthsTestedSays, UpdateCanvasRowsSays, AddSpanSays, ReadPlaceSays};
 ghost use Rattle.table.specs.Fills.{Sizes, Tested, NumbersBetween, RowNumbers, row_at};
 
 use refusal::Refusal;
@@ -35,7 +34,7 @@ pub fn build(
 ) -> Result<(), Refusal>
     ensures { BuildSays target.now canvas.now w h table.old (number_of result) table.new }
 {
-    tested(target.len(), canvas.len(), w, h, table.len())?;
+    lengths_tested(w, h, target.len(), canvas.len(), table.len())?;
     if !float::all_within(target) {
         return Err(Refusal::Pixel);
     }
@@ -59,7 +58,7 @@ pub fn update_canvas_rows(
 ) -> Result<(), Refusal>
     ensures { UpdateCanvasRowsSays target.now canvas.now w h table.old ymin ymax (number_of result) table.new }
 {
-    tested(target.len(), canvas.len(), w, h, table.len())?;
+    lengths_tested(w, h, target.len(), canvas.len(), table.len())?;
     let hi = end_row(ymax, h);
     let lo = first_row(ymin, hi);
     rebuild_rows(target, canvas, w, h, table, lo, hi, false);
@@ -111,9 +110,15 @@ fn three_at(table: &[f64], at: usize) -> [f64; 3]
     [table[at], table[at + 1], table[at + 2]]
 }
 
-// The tests on numbers alone.
-fn tested(target: usize, canvas: usize, w: usize, h: usize, table: usize) -> Result<(), Refusal>
-    ensures { number_of result ≡ lowest (size_if (bad_size w h) ∷ length_if (bad_lengths w h target canvas table) ∷ []) }
+// Size, then the lengths of what is lent.
+pub fn lengths_tested(
+    w: usize,
+    h: usize,
+    target: usize,
+    canvas: usize,
+    table: usize,
+) -> Result<(), Refusal>
+    ensures { LengthsTestedSays w h target canvas table (number_of result) }
 {
     if refusal::bad_size(w, h) {
         return Err(Refusal::Size);

@@ -18,5 +18,5 @@ single-2 s = true_is _ s.well_formed.1.0.1.1.1.0.1
 pub returns : goal.returns
 returns c =
     let a = c.args in
-    two-done a.first a.second a.w a.h a.target.now a.canvas.now a.table.now _ _ _ _ a.fresh.now _ _ _ _ c.requires.built c.requires.room (single (goal.at.returns c).Start) (single-2 (goal.at.returns c).Start) c.run_call-a.ensures
-    c.run_call-b.ensures c.build-c.ensures
+    two-done a.first a.second a.w a.h a.target.now a.canvas.now a.table.now _ _ _ _ a.fresh.now _ _ _ _ c.requires.built c.requires.room (single (goal.at.returns c).Start) (single-2 (goal.at.returns c).Start) c.run_call-first.ensures
+    c.run_call-second.ensures c.build-afresh.ensures

@@ -14,21 +14,21 @@ use Rattle.table.proofs.build.Goals as goal
 
 -- `build`: the tests leave the sizes and no NaN to the rows' loop, which leaves the table (`built`).
 
-pub returns-in_err-tested : goal.returns-in_err-tested
-returns-in_err-tested c =
+pub returns-in_err-lengths_tested : goal.returns-in_err-lengths_tested
+returns-in_err-lengths_tested c =
     let a = c.args in
-    let k : number_of c.from_residual.result ≡ number c.in_err-tested.field-0.0 = search rules in
-    build_refused a.target.now a.canvas.now a.w a.h a.table.now _ (k ∙ c.in_err-tested.ensures) (λ z. number-positive c.in_err-tested.field-0.0 (sym k ∙ z))
+    let k : number_of c.from_residual.result ≡ number c.in_err-lengths_tested.field-0.0 = search rules in
+    build_refused a.target.now a.canvas.now a.w a.h a.table.now _ (k ∙ c.in_err-lengths_tested.ensures) (λ z. number-positive c.in_err-lengths_tested.field-0.0 (sym k ∙ z))
 
 pub returns-then-not-all_within : goal.returns-then-not-all_within
 returns-then-not-all_within c =
     let a = c.args in
-    build_pixel a.target.now a.canvas.now a.w a.h a.table.now (sym c.in_ok-tested.ensures) (bad_target a.target.now a.canvas.now a.w a.h a.table.now _ c.all_within.ensures (ap not c.if-not-all_within.true))
+    build_pixel a.target.now a.canvas.now a.w a.h a.table.now (sym c.in_ok-lengths_tested.ensures) (bad_target a.target.now a.canvas.now a.w a.h a.table.now _ c.all_within.ensures (ap not c.if-not-all_within.true))
 
 pub returns-then-not-all_within-2 : goal.returns-then-not-all_within-2
 returns-then-not-all_within-2 c =
     let a = c.args in
-    build_pixel a.target.now a.canvas.now a.w a.h a.table.now (sym c.in_ok-tested.ensures) (bad_canvas a.target.now a.canvas.now a.w a.h a.table.now _ c.all_within-2.ensures (ap not c.if-not-all_within-2.true))
+    build_pixel a.target.now a.canvas.now a.w a.h a.table.now (sym c.in_ok-lengths_tested.ensures) (bad_canvas a.target.now a.canvas.now a.w a.h a.table.now _ c.all_within-2.ensures (ap not c.if-not-all_within-2.true))
 
 pub rebuild_rows-requires : goal.rebuild_rows-requires
 unfolding update_refusal
@@ -36,12 +36,12 @@ rebuild_rows-requires c =
     let a = c.args in
     let good = sym c.all_within.ensures ∙ c.if-not-all_within.false in
     let kept = sym c.all_within-2.ensures ∙ c.if-not-all_within-2.false in
-    record { sizes = (sizes a.target.now a.canvas.now a.w a.h a.table.now (sym c.in_ok-tested.ensures), omega arith, omega arith); tested = λ _. (true_is (all_within a.target.now) good, true_is (all_within a.canvas.now) kept) }
+    record { sizes = (sizes a.target.now a.canvas.now a.w a.h a.table.now (sym c.in_ok-lengths_tested.ensures), omega arith, omega arith); tested = λ _. (true_is (all_within a.target.now) good, true_is (all_within a.canvas.now) kept) }
 
 pub returns : goal.returns
 unfolding update_refusal
 returns c =
     let a = c.args in
-    let e = sym c.in_ok-tested.ensures in
+    let e = sym c.in_ok-lengths_tested.ensures in
     build_done a.target.now a.canvas.now a.w a.h a.table.now _ e (sym c.all_within.ensures ∙ c.if-not-all_within.false) (sym c.all_within-2.ensures ∙ c.if-not-all_within-2.false)
     (subst (Table a.w a.h a.target.now a.canvas.now) (sym c.rebuild_rows.ensures) (built a.w a.h a.target.now a.canvas.now a.table.now (sizes a.target.now a.canvas.now a.w a.h a.table.now e).places))

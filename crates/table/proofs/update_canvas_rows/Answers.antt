@@ -12,23 +12,23 @@ use Rattle.table.proofs.update_canvas_rows.Goals as goal
 
 -- `update_canvas_rows`: the two ends name the rows of the rule (`updated`).
 
-pub returns-in_err-tested : goal.returns-in_err-tested
-returns-in_err-tested c =
+pub returns-in_err-lengths_tested : goal.returns-in_err-lengths_tested
+returns-in_err-lengths_tested c =
     let a = c.args in
-    let k : number_of c.from_residual.result ≡ number c.in_err-tested.field-0.0 = search rules in
-    update_refused a.target.now a.canvas.now a.w a.h a.table.now a.ymin a.ymax _ (k ∙ c.in_err-tested.ensures) (λ z. number-positive c.in_err-tested.field-0.0 (sym k ∙ z))
+    let k : number_of c.from_residual.result ≡ number c.in_err-lengths_tested.field-0.0 = search rules in
+    update_refused a.target.now a.canvas.now a.w a.h a.table.now a.ymin a.ymax _ (k ∙ c.in_err-lengths_tested.ensures) (λ z. number-positive c.in_err-lengths_tested.field-0.0 (sym k ∙ z))
 
 pub rebuild_rows-requires : goal.rebuild_rows-requires
 unfolding update_refusal
 rebuild_rows-requires c =
     let a = c.args in
-    record { sizes = (sizes a.target.now a.canvas.now a.w a.h a.table.now (sym (c.in_ok-tested.ensures)), c.first_row-lo.ensures.0, c.end_row-hi.ensures.0); tested = λ e. no_both e refl }
+    record { sizes = (sizes a.target.now a.canvas.now a.w a.h a.table.now (sym (c.in_ok-lengths_tested.ensures)), c.first_row-lo.ensures.0, c.end_row-hi.ensures.0); tested = λ e. no_both e refl }
 
 pub returns : goal.returns
 unfolding update_refusal
 returns c =
     let a = c.args in
-    let e = sym (c.in_ok-tested.ensures) in
+    let e = sym (c.in_ok-lengths_tested.ensures) in
     let hi = c.end_row-hi.ensures in
     let lo = c.first_row-lo.ensures in
     update_done a.target.now a.canvas.now a.w a.h a.table.now a.ymin a.ymax _ e

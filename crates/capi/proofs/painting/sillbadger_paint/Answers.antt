@@ -5,7 +5,7 @@ use Rattle.capi.proofs.painting.sillbadger_paint.Goals as goal
 
 pub returns-in-Some : goal.returns-in-Some
 returns-in-Some c =
-    rw (sym (rw c.in-Some.is at c.outline-o.ensures)) c.paint.ensures
+    rw (sym (rw c.in-Some.is at c.outline-o.ensures), c.number_of.ensures) c.paint-answer.ensures
 
 pub returns-in-None : goal.returns-in-None
 returns-in-None c =

@@ -1,9 +1,9 @@
 use mathlib.Core.Path.{sym, ◌∙◌}
 use Rattle.refusal.specs.RefusalLaws.{sized}
 use Rattle.table.specs.TestLaws.{sizes-after}
-use Rattle.table.proofs.tested.Goals as goal
+use Rattle.table.proofs.lengths_tested.Goals as goal
 
--- `tested`: each test in the order of the numbers.
+-- `lengths_tested`: each test in the order of the numbers.
 
 pub returns-then-bad_size : goal.returns-then-bad_size
 returns-then-bad_size c = simp (sizes-after, sym c.bad_size.ensures ∙ c.if-bad_size.true)
