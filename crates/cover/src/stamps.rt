@@ -171,7 +171,9 @@ fn quad_stamp(
     None
 }
 
-// The covered pixels of eight rows of eight, from column left and row top on, where such a stamp is known.
+// The covered pixels of eight rows of eight, from column left and row top on, where such a stamp is known. Written out in its callers: where
+// the kind is known, no branch asks for it.
+#[inline(always)]
 pub fn stamp_of(kind: Kind, left: usize, top: usize, w: usize, h: usize) -> Option<u64>
     requires sizes { Sized w h }
     requires places { bad_places kind ≡ false }

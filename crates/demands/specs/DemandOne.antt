@@ -221,11 +221,11 @@ module _ (kind : Kind) (w h : ℕ) (given : cover.refusal_of kind w h ≡ 0 → 
   pub refused_band : (r : Outcome Reach) → RedrawBandSays kind w h r → answer_of same no_band r ≡ record { number = cover.refusal_of kind w h; value = no_band; done = false }
   refused_band r p = p ∙ refused-answer (cover.refusal_of kind w h) (cover.band kind h) no_band given
 
-pub refused-score : (n : ℕ) (s : Score) → (n ≡ 0 → ⊥) → answered n s ≡ Refused n
+pub refused-score : {A : Type 0} (n : ℕ) (s : A) → (n ≡ 0 → ⊥) → answered n s ≡ Refused n
 refused-score n s given = ap (λ (b : Bool). cond b (Done s) (Refused n)) (ne_eqb n 0 given)
 
-pub refused-sums : (n : ℕ) (s : ShapeSums) → (n ≡ 0 → ⊥) → collected n s ≡ record { refused = n; sums = no_sums }
-refused-sums n s given = ap (λ (b : Bool). cond b (record { refused = 0; sums = s }) (record { refused = n; sums = no_sums })) (ne_eqb n 0 given)
+pub refused-sums : (n : ℕ) (s : ShapeSums) → (n ≡ 0 → ⊥) → collected n s ≡ Refused n
+refused-sums = refused-score
 
 -- "no lent number has changed"
 pub refused_build_changes_nothing : (target canvas : List Float) (w h : ℕ) (old : List Float) (r : ℕ) (new : List Float) → BuildSays target canvas w h old r new

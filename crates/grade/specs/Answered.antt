@@ -1,7 +1,6 @@
--- Rules: the answer of a call that scores: document 01's number if it is refused, else the score.
+-- Rules: the answer of a call that works something out: document 01's number if it is refused, else the value.
 use Rattle.std.specs.Prelude.{cond, ℕ, eqb}
-use Rattle.grade.specs.declared.Score.{Score}
 use Rattle.refusal.specs.Outcomes.{Outcome, Done, Refused}
 
-abbrev pub answered : ℕ → Score → Outcome Score
-answered number s = cond (eqb number 0) (Done s) (Refused number)
+abbrev pub answered : {A : Type 0} → ℕ → A → Outcome A
+answered number a = cond (eqb number 0) (Done a) (Refused number)

@@ -6,7 +6,7 @@ use Rattle.cover.specs.declared.Kind.TheVariants.{Circle, Triangle, Quad}
 use Rattle.score.specs.declared.Request.{Request}
 use Rattle.score.specs.declared.Request.TheVariants.{Opacity, Levels}
 use Rattle.refusal.specs.Outcomes.{Outcome, Done, Refused}
-use Rattle.score.specs.declared.Collected.{Collected}
+use Rattle.sums.specs.Sums.{no_sums}
 use Rattle.grade.specs.Swept.{swept}
 use Rattle.grade.specs.Answered.{answered}
 use Rattle.grade.specs.AlphaSweep.{sweep_refusal}
@@ -49,17 +49,21 @@ answer_of (Done r) =
 answer_of (Refused k) =
     record { refused = k; opacity = nought; count = 0; change = nought; red = nought; green = nought; blue = nought }
 
-abbrev pub gathered_of : Collected → ProbedCollected
-gathered_of c =
+abbrev pub probed : ShapeSums → ℕ → ProbedCollected
+probed s number =
     record {
-      refused = c.refused;
-      s_t = c.sums.s_t;
-      s_c = c.sums.s_c;
-      s_t2 = c.sums.s_t2;
-      s_c2 = c.sums.s_c2;
-      s_tc = c.sums.s_tc;
-      count = c.sums.count;
+      refused = number;
+      s_t = s.s_t;
+      s_c = s.s_c;
+      s_t2 = s.s_t2;
+      s_c2 = s.s_c2;
+      s_tc = s.s_tc;
+      count = s.count;
     }
+
+abbrev pub gathered_of : Outcome ShapeSums → ProbedCollected
+gathered_of (Done s) = probed s 0
+gathered_of (Refused k) = probed no_sums k
 
 abbrev pub ProbeSpanScoreSays : Kind → Request → List Float → ℕ → ℕ → List Float → ProbedAnswer → Type 0
 ProbeSpanScoreSays kind request levels w h table r =

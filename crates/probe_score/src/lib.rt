@@ -6,6 +6,7 @@ ghost use Rattle.probe_score.specs.Probes.{
   kind_of,
   request_of,
   answer_of,
+  probed,
   gathered_of,
   sums_of,
   ProbeAlphaLevelsSays,
@@ -23,7 +24,7 @@ ghost use Rattle.refusal.specs.Outcomes.{outcome};
 use cover::Kind;
 use grade::Score;
 use refusal::Refusal;
-use score::{Collected, Request};
+use score::Request;
 use sums::ShapeSums;
 
 #[repr(C)]
@@ -159,23 +160,31 @@ fn answer_of(s: Result<Score, Refusal>) -> ProbedAnswer
     }
 }
 
-fn gathered(c: Collected) -> ProbedCollected
-    ensures { result ≡ gathered_of c }
+fn probed(s: ShapeSums, refused: u8) -> ProbedCollected
+    ensures { result ≡ probed s refused }
 {
-    let s = c.sums;
     let s_t = s.s_t;
     let s_c = s.s_c;
     let s_t2 = s.s_t2;
     let s_c2 = s.s_c2;
     let s_tc = s.s_tc;
     ProbedCollected {
-        refused: c.refused,
-        s_t: s_t,
-        s_c: s_c,
-        s_t2: s_t2,
-        s_c2: s_c2,
-        s_tc: s_tc,
+        refused,
+        s_t,
+        s_c,
+        s_t2,
+        s_c2,
+        s_tc,
         count: s.count,
+    }
+}
+
+fn gathered(c: Result<ShapeSums, Refusal>) -> ProbedCollected
+    ensures { result ≡ gathered_of (outcome c) }
+{
+    match c {
+        Ok(s) => probed(s, 0),
+        Err(no) => probed(ShapeSums::new(), no.number()),
     }
 }
 

@@ -1,8 +1,8 @@
 // What is written of an answer.
 use grade::Score;
 use refusal::Refusal;
-use score::Collected;
 use std::io;
+use sums::ShapeSums;
 
 pub(crate) fn refused(rt: &impl Print, no: u8) -> io::Result<()> {
     show::text(rt, "refused ")?;
@@ -31,13 +31,16 @@ pub(crate) fn answer(rt: &impl Print, s: Result<Score, Refusal>) -> io::Result<(
     show::text(rt, "\n")
 }
 
-pub(crate) fn sums_answer(rt: &impl Print, c: Collected) -> io::Result<()> {
-    if c.refused != 0 {
-        refused(rt, c.refused)?;
-        return show::text(rt, "\n");
+pub(crate) fn sums_answer(rt: &impl Print, c: Result<ShapeSums, Refusal>) -> io::Result<()> {
+    match c {
+        Ok(s) => {
+            show::unsigned(rt, s.count as u64)?;
+            show::text(rt, "\n")?;
+            figures::series(rt, s)
+        }
+        Err(no) => {
+            refused(rt, no.number())?;
+            show::text(rt, "\n")
+        }
     }
-    let s = c.sums;
-    show::unsigned(rt, s.count as u64)?;
-    show::text(rt, "\n")?;
-    figures::series(rt, s)
 }

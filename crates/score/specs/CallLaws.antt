@@ -16,10 +16,10 @@ use Rattle.refusal.specs.Outcomes.{Outcome, Done, Refused}
 use Rattle.grade.specs.Finalize.{finalized, no_score}
 use Rattle.grade.specs.FinalizeLaws.{finalized-none}
 use Rattle.grade.specs.Answered.{answered}
+use Rattle.grade.specs.AnsweredLaws.{answered-done}
 use Rattle.grade.specs.AlphaSweep.{bad_levels}
 use Rattle.score.specs.declared.Request.{Request}
 use Rattle.score.specs.declared.Request.TheVariants.{Opacity}
-use Rattle.score.specs.declared.Collected.{Collected}
 use Rattle.sums.specs.declared.ShapeSums.{ShapeSums}
 use Rattle.sums.specs.Sums.{no_sums}
 use Rattle.refusal.specs.ThreeTests as three
@@ -29,7 +29,7 @@ use Rattle.cover.specs.ReachRows.{ReachRowsSays}
 use Rattle.float.specs.Within.{within}
 use Rattle.score.specs.Usual.{Usual}
 use Rattle.gather.specs.Gathered.{span_sums, point_sums}
-use Rattle.score.specs.Scoring.{SpanScoreSays, PointScoreSays, score_at, bad_count, bad_opacity, span_refusal, point_refusal, span_sums_refusal, point_sums_refusal, none_collected, collected, CollectSpanSumsSays, CollectPointSumsSays}
+use Rattle.score.specs.Scoring.{SpanScoreSays, PointScoreSays, score_at, bad_count, bad_opacity, span_refusal, point_refusal, span_sums_refusal, point_sums_refusal, CollectSpanSumsSays, CollectPointSumsSays}
 
 pub or-first : (a b : Bool) → a ≡ true → a || b ≡ true
 or-first a b h = ap (λ (t : Bool). t || b) h
@@ -181,18 +181,6 @@ unfolding point_sums_refusal
 point_sums-passed kind w h target canvas e =
     three.passed (bad_size w h) (bad_picture w h (length target) || bad_picture w h (length canvas)) (bad_places kind) 4 (omega arith) e
 
-pub none_collected_lem : (k : ℕ) (s : ShapeSums) → s ≡ no_sums → record { refused = k; sums = s } ≡ none_collected k
-none_collected_lem k s e = ap (λ (q : ShapeSums). record { refused = k; sums = q }) e
-
-pub collected_refused : (n k : ℕ) (r : Collected) (s : ShapeSums) → k ≡ n → (k ≡ 0 → ⊥) → r ≡ none_collected k → r ≡ collected n s
-collected_refused n k r s e z g =
-    g ∙ ap none_collected e ∙ sym (ap (λ (b : Bool). cond b (record { refused = 0; sums = s }) (none_collected n)) (ne_eqb n 0 (λ q. z (e ∙ q))))
-
-pub collected_done : (n : ℕ) (s t : ShapeSums) → n ≡ 0 → t ≡ s → record { refused = 0; sums = t } ≡ collected n s
-collected_done n s t z e =
-    ap (λ (q : ShapeSums). record { refused = 0; sums = q }) e
-    ∙ sym (ap (λ (b : Bool). cond b (record { refused = 0; sums = s }) (none_collected n)) (eq-eqb n 0 z))
-
 -- ---- sums of a call that passed its tests in one go
 module _ (kind : Kind) (w h : ℕ) {opacity : Float} {n : ℕ} where
   module _ (table : List Float) (f : Usual kind opacity n w h × (bad_table w h (length table) ≡ false)) where
@@ -200,11 +188,11 @@ module _ (kind : Kind) (w h : ℕ) {opacity : Float} {n : ℕ} where
     unfolding span_sums_refusal
     span_sums-taken = sym (three.at_none (bad_size w h) (bad_table w h (length table)) (bad_places kind) 4 (omega arith) f.0.size f.1 f.0.places)
 
-    pub span_sums-told : (q : ShapeSums) → q ≡ span_sums kind w h table → CollectSpanSumsSays kind w h table (record { refused = 0; sums = q })
-    span_sums-told q e = collected_done (span_sums_refusal kind w h table) (span_sums kind w h table) q span_sums-taken e
+    pub span_sums-told : (q : ShapeSums) → q ≡ span_sums kind w h table → CollectSpanSumsSays kind w h table (Done q)
+    span_sums-told q e = answered-done (span_sums_refusal kind w h table) (span_sums kind w h table) q span_sums-taken e
 
-    pub span_sums-nothing : (r : Rows) → ReachRowsSays kind w h r → r.bottom ≤ r.top → (c : Collected) → c ≡ none_collected 0 → CollectSpanSumsSays kind w h table c
-    span_sums-nothing r e l c g = g ∙ span_sums-told no_sums (none_spans kind w h (sized w h f.0.size).h_high (none_reached kind w h r e l) table)
+    pub span_sums-nothing : (r : Rows) → ReachRowsSays kind w h r → r.bottom ≤ r.top → (q : ShapeSums) → q ≡ no_sums → CollectSpanSumsSays kind w h table (Done q)
+    span_sums-nothing r e l q g = span_sums-told q (g ∙ none_spans kind w h (sized w h f.0.size).h_high (none_reached kind w h r e l) table)
 
   module _ (target canvas : List Float) (f : Usual kind opacity n w h × (bad_picture w h (length target) || bad_picture w h (length canvas) ≡ false)) where
     point_sums-taken : point_sums_refusal kind w h target canvas ≡ 0
@@ -212,11 +200,11 @@ module _ (kind : Kind) (w h : ℕ) {opacity : Float} {n : ℕ} where
     point_sums-taken =
         sym (three.at_none (bad_size w h) (bad_picture w h (length target) || bad_picture w h (length canvas)) (bad_places kind) 4 (omega arith) f.0.size f.1 f.0.places)
 
-    pub point_sums-told : (q : ShapeSums) → q ≡ point_sums kind w h target canvas → CollectPointSumsSays kind w h target canvas (record { refused = 0; sums = q })
-    point_sums-told q e = collected_done (point_sums_refusal kind w h target canvas) (point_sums kind w h target canvas) q point_sums-taken e
+    pub point_sums-told : (q : ShapeSums) → q ≡ point_sums kind w h target canvas → CollectPointSumsSays kind w h target canvas (Done q)
+    point_sums-told q e = answered-done (point_sums_refusal kind w h target canvas) (point_sums kind w h target canvas) q point_sums-taken e
 
-    pub point_sums-nothing : (r : Rows) → ReachRowsSays kind w h r → r.bottom ≤ r.top → (c : Collected) → c ≡ none_collected 0 → CollectPointSumsSays kind w h target canvas c
-    point_sums-nothing r e l c g = g ∙ point_sums-told no_sums (none_points kind w h (sized w h f.0.size).h_high (none_reached kind w h r e l) target canvas)
+    pub point_sums-nothing : (r : Rows) → ReachRowsSays kind w h r → r.bottom ≤ r.top → (q : ShapeSums) → q ≡ no_sums → CollectPointSumsSays kind w h target canvas (Done q)
+    point_sums-nothing r e l q g = point_sums-told q (g ∙ none_points kind w h (sized w h f.0.size).h_high (none_reached kind w h r e l) target canvas)
 
 pub not-holds : (b : Bool) → not b ≡ true → b ≡ false
 not-holds true h = no_both h refl

@@ -7,7 +7,6 @@ use Rattle.cover.specs.declared.Kind.{Kind}
 use Rattle.cover.specs.declared.Kind.TheVariants.{Circle, Triangle}
 use Rattle.cover.specs.Cover.{bad_places}
 use Rattle.sums.specs.declared.ShapeSums.{ShapeSums}
-use Rattle.sums.specs.Sums.{no_sums}
 use Rattle.gather.specs.Gathered.{span_sums, point_sums}
 use Rattle.grade.specs.declared.Score.{Score}
 use Rattle.refusal.specs.Outcomes.{Outcome}
@@ -17,7 +16,6 @@ use Rattle.grade.specs.Answered.{answered}
 use Rattle.grade.specs.AlphaSweep.{bad_levels, bad_level_count, bad_first_levels}
 use Rattle.score.specs.declared.Request.{Request}
 use Rattle.score.specs.declared.Request.TheVariants.{Opacity, Levels}
-use Rattle.score.specs.declared.Collected.{Collected}
 
 -- ---- the request
 unfoldable pub score_at : ShapeSums → Request → List Float → Score
@@ -61,18 +59,15 @@ point_sums_refusal kind w h target canvas =
     lowest
     (size_if (bad_size w h) ∷ length_if (bad_picture w h (length target) || bad_picture w h (length canvas)) ∷ place_if (bad_places kind) ∷ [])
 
--- ---- sums with the refusal's number beside them, none where it is refused
-abbrev pub none_collected : ℕ → Collected
-none_collected number = record { refused = number; sums = no_sums }
-
-abbrev pub collected : ℕ → ShapeSums → Collected
-collected number s = cond (eqb number 0) (record { refused = 0; sums = s }) (none_collected number)
+-- ---- the sums, or the refusal's number
+abbrev pub collected : ℕ → ShapeSums → Outcome ShapeSums
+collected = answered
 
 -- ---- what the calls promise; what is lent is only read
-abbrev pub CollectSpanSumsSays : Kind → ℕ → ℕ → List Float → Collected → Type 0
+abbrev pub CollectSpanSumsSays : Kind → ℕ → ℕ → List Float → Outcome ShapeSums → Type 0
 CollectSpanSumsSays kind w h table r = r ≡ collected (span_sums_refusal kind w h table) (span_sums kind w h table)
 
-abbrev pub CollectPointSumsSays : Kind → ℕ → ℕ → List Float → List Float → Collected → Type 0
+abbrev pub CollectPointSumsSays : Kind → ℕ → ℕ → List Float → List Float → Outcome ShapeSums → Type 0
 CollectPointSumsSays kind w h target canvas r = r ≡ collected (point_sums_refusal kind w h target canvas) (point_sums kind w h target canvas)
 
 abbrev pub SpanScoreSays : Kind → Request → List Float → ℕ → ℕ → List Float → Outcome Score → Type 0
@@ -90,8 +85,8 @@ CirclePointScoreSays cx cy r = PointScoreSays (Circle cx cy r)
 abbrev pub TrianglePointScoreSays : ℤ → ℤ → ℤ → ℤ → ℤ → ℤ → Request → List Float → ℕ → ℕ → List Float → List Float → Outcome Score → Type 0
 TrianglePointScoreSays x0 y0 x1 y1 x2 y2 = PointScoreSays (Triangle x0 y0 x1 y1 x2 y2)
 
-abbrev pub CollectCircleSumsSays : ℤ → ℤ → ℤ → ℕ → ℕ → List Float → List Float → Collected → Type 0
+abbrev pub CollectCircleSumsSays : ℤ → ℤ → ℤ → ℕ → ℕ → List Float → List Float → Outcome ShapeSums → Type 0
 CollectCircleSumsSays cx cy r = CollectPointSumsSays (Circle cx cy r)
 
-abbrev pub CollectTriangleSumsSays : ℤ → ℤ → ℤ → ℤ → ℤ → ℤ → ℕ → ℕ → List Float → List Float → Collected → Type 0
+abbrev pub CollectTriangleSumsSays : ℤ → ℤ → ℤ → ℤ → ℤ → ℤ → ℕ → ℕ → List Float → List Float → Outcome ShapeSums → Type 0
 CollectTriangleSumsSays x0 y0 x1 y1 x2 y2 = CollectPointSumsSays (Triangle x0 y0 x1 y1 x2 y2)

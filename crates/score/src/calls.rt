@@ -16,7 +16,7 @@ ghost use Rattle.score.specs.Scoring.{
 };
 ghost use Rattle.refusal.specs.Outcomes.{outcome};
 
-use crate::{Collected, Request};
+use crate::Request;
 use cover::Kind;
 use grade::Score;
 use refusal::Refusal;
@@ -111,11 +111,11 @@ fn tested_point_score(
     Ok(score_at(sums, request, levels))
 }
 
-// The score of a circle from the two pictures, pixel by pixel. It takes plain numbers, so that no quad can be asked.
-pub fn circle_point_score(
-    cx: i32,
-    cy: i32,
-    r: i32,
+// The score of a circle or a triangle from the two pictures, pixel by pixel, as `span_score` has it from a table. Written out in its two
+// callers, so that neither asks which of the two it is.
+#[inline(always)]
+fn point_score(
+    kind: Kind,
     request: Request,
     levels: &[f32],
     w: usize,
@@ -123,9 +123,8 @@ pub fn circle_point_score(
     target: &[f32],
     canvas: &[f32],
 ) -> Result<Score, Refusal>
-    ensures { CirclePointScoreSays cx cy r request levels.now w h target.now canvas.now (outcome result) }
+    ensures { PointScoreSays kind request levels.now w h target.now canvas.now (outcome result) }
 {
-    let kind = Kind::Circle(cx, cy, r);
     let opacity = crate::tests::asked(request);
     if crate::tests::usual_pictures(
         kind,
@@ -144,7 +143,7 @@ pub fn circle_point_score(
         }
         let left = cover::stamps::first_column(kind, w);
         if (bottom - top <= 8) & (left < w) {
-            if let Some(bits) = cover::stamps::circle_stamp(cx, cy, r, left, top, w, h) {
+            if let Some(bits) = cover::stamps::stamp_of(kind, left, top, w, h) {
                 let few = gather::points::unpaired(gather::points::push_stamp(
                     bits, left, top, target, canvas, w,
                 ));
@@ -157,7 +156,32 @@ pub fn circle_point_score(
     tested_point_score(kind, request, levels, w, h, target, canvas)
 }
 
-// The same of a triangle.
+// Of a circle. It takes plain numbers, so that no quad can be asked.
+pub fn circle_point_score(
+    cx: i32,
+    cy: i32,
+    r: i32,
+    request: Request,
+    levels: &[f32],
+    w: usize,
+    h: usize,
+    target: &[f32],
+    canvas: &[f32],
+) -> Result<Score, Refusal>
+    ensures { CirclePointScoreSays cx cy r request levels.now w h target.now canvas.now (outcome result) }
+{
+    point_score(
+        Kind::Circle(cx, cy, r),
+        request,
+        levels,
+        w,
+        h,
+        target,
+        canvas,
+    )
+}
+
+// Of a triangle.
 pub fn triangle_point_score(
     x0: i32,
     y0: i32,
@@ -174,99 +198,105 @@ pub fn triangle_point_score(
 ) -> Result<Score, Refusal>
     ensures { TrianglePointScoreSays x0 y0 x1 y1 x2 y2 request levels.now w h target.now canvas.now (outcome result) }
 {
-    let kind = Kind::Triangle(x0, y0, x1, y1, x2, y2);
-    let opacity = crate::tests::asked(request);
-    if crate::tests::usual_pictures(
-        kind,
-        opacity,
-        levels.len(),
+    point_score(
+        Kind::Triangle(x0, y0, x1, y1, x2, y2),
+        request,
+        levels,
         w,
         h,
-        target.len(),
-        canvas.len(),
-    ) {
-        let rows = cover::reached::reach_rows(kind, w, h);
-        let top = rows.top;
-        let bottom = rows.bottom;
-        if bottom <= top {
-            return Ok(grade::no_score(opacity, 0));
-        }
-        let left = cover::stamps::first_column(kind, w);
-        if (bottom - top <= 8) & (left < w) {
-            if let Some(bits) = cover::stamps::triangle_stamp(
-                x0, y0, x1, y1, x2, y2, left, top, w, h,
-            ) {
-                let few = gather::points::unpaired(gather::points::push_stamp(
-                    bits, left, top, target, canvas, w,
-                ));
-                return done(grade::finalize(few, opacity));
-            }
-        }
-        let sums = gather::points::reached_sums(kind, top, bottom, w, h, target, canvas);
-        return done(grade::finalize(sums, opacity));
-    }
-    tested_point_score(kind, request, levels, w, h, target, canvas)
+        target,
+        canvas,
+    )
 }
 
 // The sums of a shape from a table, for sweeps and scores at several opacities. As for a score the tests come in one go; there is no
-// opacity and no level list to test, so 0 and 64 stand for them.
-pub fn collect_span_sums(kind: Kind, w: usize, h: usize, table: &[f64]) -> Collected
-    ensures { CollectSpanSumsSays kind w h table.now result }
+// opacity and no level list to test, so 0 and 64 stand for them. What the tests in order answer is taken apart: else the answer's place is lent
+// to that call, and every other way to it goes through memory too.
+pub fn collect_span_sums(
+    kind: Kind,
+    w: usize,
+    h: usize,
+    table: &[f64],
+) -> Result<ShapeSums, Refusal>
+    ensures { CollectSpanSumsSays kind w h table.now (outcome result) }
 {
     if crate::tests::usual_table(kind, 0.0, 64, w, h, table.len()) {
         let rows = cover::reached::reach_rows(kind, w, h);
         let top = rows.top;
         let bottom = rows.bottom;
         if bottom <= top {
-            return crate::no_sums(0);
+            return Ok(ShapeSums::new());
         }
         let left = cover::stamps::first_column(kind, w);
         if (bottom - top <= 8) & (left < w) {
             if let Some(bits) = cover::stamps::stamp_of(kind, left, top, w, h) {
                 let few = gather::spans::add_stamp(bits, left, top, table, w);
-                return Collected {
-                    sums: few,
-                    refused: 0,
-                };
+                return Ok(few);
             }
         }
         let gathered = gather::spans::reached_sums(kind, top, bottom, w, h, table);
-        return Collected {
-            sums: gathered,
-            refused: 0,
-        };
+        return Ok(gathered);
     }
-    crate::apart(tested_span_sums(kind, w, h, table))
+    let tested = tested_span_sums(kind, w, h, table)?;
+    Ok(tested)
 }
 
 // The same with the tests in order.
-fn tested_span_sums(kind: Kind, w: usize, h: usize, table: &[f64]) -> Collected
-    ensures { CollectSpanSumsSays kind w h table.now result }
+fn tested_span_sums(kind: Kind, w: usize, h: usize, table: &[f64]) -> Result<ShapeSums, Refusal>
+    ensures { CollectSpanSumsSays kind w h table.now (outcome result) }
 {
-    if let Err(no) = crate::tests::span_sums_tested(kind, w, h, table) {
-        return crate::no_sums(no.number());
-    }
-    let sums = gather::spans::span_sums(kind, w, h, table);
-    Collected {
-        sums: sums,
-        refused: 0,
-    }
+    crate::tests::span_sums_tested(kind, w, h, table)?;
+    Ok(gather::spans::span_sums(kind, w, h, table))
 }
 
-fn tested_point_sums(kind: Kind, w: usize, h: usize, target: &[f32], canvas: &[f32]) -> Collected
-    ensures { CollectPointSumsSays kind w h target.now canvas.now result }
+fn tested_point_sums(
+    kind: Kind,
+    w: usize,
+    h: usize,
+    target: &[f32],
+    canvas: &[f32],
+) -> Result<ShapeSums, Refusal>
+    ensures { CollectPointSumsSays kind w h target.now canvas.now (outcome result) }
 {
-    if let Err(no) = crate::tests::point_sums_tested(kind, w, h, target, canvas) {
-        return crate::no_sums(no.number());
-    }
-    let sums = gather::points::point_sums(kind, w, h, target, canvas);
-    Collected {
-        sums: sums,
-        refused: 0,
-    }
+    crate::tests::point_sums_tested(kind, w, h, target, canvas)?;
+    Ok(gather::points::point_sums(kind, w, h, target, canvas))
 }
 
-// The sums of a circle from the two pictures, pixel by pixel.
+// The sums of a circle or a triangle from the two pictures, pixel by pixel; written out in its two callers, as `point_score` is.
+#[inline(always)]
+fn collect_point_sums(
+    kind: Kind,
+    w: usize,
+    h: usize,
+    target: &[f32],
+    canvas: &[f32],
+) -> Result<ShapeSums, Refusal>
+    ensures { CollectPointSumsSays kind w h target.now canvas.now (outcome result) }
+{
+    if crate::tests::usual_pictures(kind, 0.0, 64, w, h, target.len(), canvas.len()) {
+        let rows = cover::reached::reach_rows(kind, w, h);
+        let top = rows.top;
+        let bottom = rows.bottom;
+        if bottom <= top {
+            return Ok(ShapeSums::new());
+        }
+        let left = cover::stamps::first_column(kind, w);
+        if (bottom - top <= 8) & (left < w) {
+            if let Some(bits) = cover::stamps::stamp_of(kind, left, top, w, h) {
+                let few = gather::points::unpaired(gather::points::push_stamp(
+                    bits, left, top, target, canvas, w,
+                ));
+                return Ok(few);
+            }
+        }
+        let sums = gather::points::reached_sums(kind, top, bottom, w, h, target, canvas);
+        return Ok(sums);
+    }
+    let tested = tested_point_sums(kind, w, h, target, canvas)?;
+    Ok(tested)
+}
+
+// Of a circle.
 pub fn collect_circle_sums(
     cx: i32,
     cy: i32,
@@ -275,39 +305,13 @@ pub fn collect_circle_sums(
     h: usize,
     target: &[f32],
     canvas: &[f32],
-) -> Collected
-    ensures { CollectCircleSumsSays cx cy r w h target.now canvas.now result }
+) -> Result<ShapeSums, Refusal>
+    ensures { CollectCircleSumsSays cx cy r w h target.now canvas.now (outcome result) }
 {
-    let kind = Kind::Circle(cx, cy, r);
-    if crate::tests::usual_pictures(kind, 0.0, 64, w, h, target.len(), canvas.len()) {
-        let rows = cover::reached::reach_rows(kind, w, h);
-        let top = rows.top;
-        let bottom = rows.bottom;
-        if bottom <= top {
-            return crate::no_sums(0);
-        }
-        let left = cover::stamps::first_column(kind, w);
-        if (bottom - top <= 8) & (left < w) {
-            if let Some(bits) = cover::stamps::circle_stamp(cx, cy, r, left, top, w, h) {
-                let few = gather::points::unpaired(gather::points::push_stamp(
-                    bits, left, top, target, canvas, w,
-                ));
-                return Collected {
-                    sums: few,
-                    refused: 0,
-                };
-            }
-        }
-        let sums = gather::points::reached_sums(kind, top, bottom, w, h, target, canvas);
-        return Collected {
-            sums: sums,
-            refused: 0,
-        };
-    }
-    crate::apart(tested_point_sums(kind, w, h, target, canvas))
+    collect_point_sums(Kind::Circle(cx, cy, r), w, h, target, canvas)
 }
 
-// The same of a triangle.
+// Of a triangle.
 pub fn collect_triangle_sums(
     x0: i32,
     y0: i32,
@@ -319,36 +323,8 @@ pub fn collect_triangle_sums(
     h: usize,
     target: &[f32],
     canvas: &[f32],
-) -> Collected
-    ensures { CollectTriangleSumsSays x0 y0 x1 y1 x2 y2 w h target.now canvas.now result }
+) -> Result<ShapeSums, Refusal>
+    ensures { CollectTriangleSumsSays x0 y0 x1 y1 x2 y2 w h target.now canvas.now (outcome result) }
 {
-    let kind = Kind::Triangle(x0, y0, x1, y1, x2, y2);
-    if crate::tests::usual_pictures(kind, 0.0, 64, w, h, target.len(), canvas.len()) {
-        let rows = cover::reached::reach_rows(kind, w, h);
-        let top = rows.top;
-        let bottom = rows.bottom;
-        if bottom <= top {
-            return crate::no_sums(0);
-        }
-        let left = cover::stamps::first_column(kind, w);
-        if (bottom - top <= 8) & (left < w) {
-            if let Some(bits) = cover::stamps::triangle_stamp(
-                x0, y0, x1, y1, x2, y2, left, top, w, h,
-            ) {
-                let few = gather::points::unpaired(gather::points::push_stamp(
-                    bits, left, top, target, canvas, w,
-                ));
-                return Collected {
-                    sums: few,
-                    refused: 0,
-                };
-            }
-        }
-        let sums = gather::points::reached_sums(kind, top, bottom, w, h, target, canvas);
-        return Collected {
-            sums: sums,
-            refused: 0,
-        };
-    }
-    crate::apart(tested_point_sums(kind, w, h, target, canvas))
+    collect_point_sums(Kind::Triangle(x0, y0, x1, y1, x2, y2), w, h, target, canvas)
 }

@@ -1,5 +1,8 @@
 use mathlib.Core.Path.{◌∙◌}
 use native.Mathlib.Omega.{arith}
+use Rattle.std.proofs.Common.{rules}
+use Rattle.std.specs.Prelude.{◌≡◌}
+use Rattle.refusal.specs.Outcomes.{number, outcome, Refused}
 use Rattle.score.specs.CallLaws.{usual_rows, span_sums-nothing, span_sums-told}
 use Rattle.score.specs.AskLaws.{SpansAsked, spans_asked}
 use Rattle.gather.specs.StampSumLaws.{stamp_is_spans}
@@ -18,7 +21,7 @@ pub returns-then-bottom-top : goal.returns-then-bottom-top
 returns-then-bottom-top c =
     let a = c.args in
     span_sums-nothing _ a.w a.h a.table.now (c.usual_table.ensures c.if-usual_table.true)
-    c.reach_rows-rows.result c.reach_rows-rows.ensures c.if-bottom-top.true c.no_sums.result c.no_sums.ensures
+    c.reach_rows-rows.result c.reach_rows-rows.ensures c.if-bottom-top.true c.new.result c.new.ensures
 
 -- what is known where some row is reached
 module _ (c : Else-bottom-top) where
@@ -59,5 +62,10 @@ returns-then-usual_table d =
     span_sums-told _ a.w a.h a.table.now (d.usual_table.ensures d.if-usual_table.true)
     d.reached_sums-gathered.result d.reached_sums-gathered.ensures
 
+pub returns-in_err-tested : goal.returns-in_err-tested
+returns-in_err-tested c =
+    let k : outcome c.from_residual.result ≡ Refused (number c.in_err-tested.field-0.0) = search rules in
+    k ∙ c.in_err-tested.ensures
+
 pub returns : goal.returns
-returns c = c.apart.ensures ∙ c.tested_span_sums.ensures
+returns c = c.in_ok-tested.ensures

@@ -1,70 +1,7 @@
-use mathlib.Core.Path.{◌∙◌}
-use native.Mathlib.Omega.{arith}
-use mir.Syntax.{w32}
-use mir.Val.{to_z, of_z}
 use mir.Facts.{to_z-of_z}
-use Rattle.cover.specs.declared.Kind.TheVariants.{Triangle}
-use Rattle.score.specs.CallLaws.{usual_rows, point_sums-nothing, point_sums-told}
-use Rattle.score.specs.AskLaws.{PointsAsked, points_asked}
-use Rattle.gather.specs.StampSumLaws.{stamp_is_points}
 use Rattle.score.proofs.calls.collect_triangle_sums.Goals as goal
-use Rattle.score.proofs.calls.collect_triangle_sums.Goals.{Else-bottom-top}
 
--- `score::calls::collect_triangle_sums` meets its contract: as for spans, of this kind, once each number that is read back from its bits is the number itself.
-
-pub reach_rows-rows-requires : goal.reach_rows-rows-requires
-reach_rows-rows-requires c =
-    let a = c.args in
-    let k = usual_rows _ _ _ a.w a.h (c.usual_pictures.ensures c.if-usual_pictures.true).0 in
-    record { sizes = k.0; places = k.1 }
-
-pub returns-then-bottom-top : goal.returns-then-bottom-top
-returns-then-bottom-top c =
-    let a = c.args in
-    simp (to_z-of_z, c.ranges.x0, c.ranges.y0, c.ranges.x1, c.ranges.y1, c.ranges.x2, c.ranges.y2) at (
-    point_sums-nothing _ a.w a.h a.target.now a.canvas.now (c.usual_pictures.ensures c.if-usual_pictures.true)
-    c.reach_rows-rows.result c.reach_rows-rows.ensures c.if-bottom-top.true c.no_sums.result c.no_sums.ensures)
-
--- what is known where some row is reached
-module _ (c : Else-bottom-top) where
-  asked : let a = c.args in PointsAsked (Triangle (to_z w32 (of_z w32 a.x0)) (to_z w32 (of_z w32 a.y0)) (to_z w32 (of_z w32 a.x1)) (to_z w32 (of_z w32 a.y1)) (to_z w32 (of_z w32 a.x2)) (to_z w32 (of_z w32 a.y2))) a.w a.h a.target.now a.canvas.now c.reach_rows-rows.result
-  asked =
-      let a = c.args in
-      let r = c.reach_rows-rows in
-      points_asked _ a.w a.h a.target.now a.canvas.now (c.usual_pictures.ensures c.if-usual_pictures.true) r.result r.ensures (omega (arith, c.if-bottom-top.false))
-
-pub first_column-left-requires : goal.first_column-left-requires
-first_column-left-requires c = let k = (asked (goal.at.first_column-left-requires c).Else-bottom-top).column in record { columns = k.0; places = k.1 }
-
-pub overflow_sub-bottom : goal.overflow_sub-bottom
-overflow_sub-bottom c = omega (arith, c.if-bottom-top.false)
-
-pub triangle_stamp-requires : goal.triangle_stamp-requires
-triangle_stamp-requires c = let k = (asked (goal.at.triangle_stamp-requires c).Else-bottom-top).stamp _ c.if-bottom-top-2.true in record { sizes = k.0; places = k.1.0; window = k.1.1 }
-
-pub push_stamp-requires : goal.push_stamp-requires
-push_stamp-requires c =
-    let k = (asked (goal.at.push_stamp-requires c).Else-bottom-top).added _ _ c.if-bottom-top-2.true (rw c.in-Some.is at c.triangle_stamp.ensures) in
-    record { window = k.0; lent = k.1.0; pixels = k.1.1 }
-
-pub returns-in-Some : goal.returns-in-Some
-returns-in-Some d =
-    let a = d.args in
-    simp (to_z-of_z, d.ranges.x0, d.ranges.y0, d.ranges.x1, d.ranges.y1, d.ranges.x2, d.ranges.y2) at (
-    point_sums-told _ a.w a.h a.target.now a.canvas.now (d.usual_pictures.ensures d.if-usual_pictures.true)
-    d.unpaired-few.result (d.unpaired-few.ensures ∙ d.push_stamp.ensures ∙ stamp_is_points _ _ _ a.w a.h _ (rw d.in-Some.is at d.triangle_stamp.ensures) a.target.now a.canvas.now))
-
-pub reached_sums-sums-requires : goal.reached_sums-sums-requires
-reached_sums-sums-requires c =
-    let k = (asked (goal.at.reached_sums-sums-requires c).Else-bottom-top).reached in
-    record { sizes = k.0; places = k.1.0; lent = k.1.1.0; rows = k.1.1.1 }
-
-pub returns-then-usual_pictures : goal.returns-then-usual_pictures
-returns-then-usual_pictures d =
-    let a = d.args in
-    simp (to_z-of_z, d.ranges.x0, d.ranges.y0, d.ranges.x1, d.ranges.y1, d.ranges.x2, d.ranges.y2) at (
-    point_sums-told _ a.w a.h a.target.now a.canvas.now (d.usual_pictures.ensures d.if-usual_pictures.true)
-    d.reached_sums-sums.result d.reached_sums-sums.ensures)
+-- `score::calls::collect_triangle_sums` meets its contract: each number that is read back from its bits is the number itself.
 
 pub returns : goal.returns
-returns c = simp (to_z-of_z, c.ranges.x0, c.ranges.y0, c.ranges.x1, c.ranges.y1, c.ranges.x2, c.ranges.y2) at (c.apart.ensures ∙ c.tested_point_sums.ensures)
+returns c = simp (to_z-of_z, c.ranges.x0, c.ranges.y0, c.ranges.x1, c.ranges.y1, c.ranges.x2, c.ranges.y2) at c.collect_point_sums.ensures
