@@ -1,6 +1,5 @@
 -- Rules: the export of refinement. Lists cross as three slices each; slices that are no list, and a number of coordinates that no kind has, are refusal 2.
-use Rattle.std.specs.Prelude.{◌≡◌, true, false, cond, ◌||◌, List, [], ◌∷◌, ◌++◌, ℕ, eqb, ℤ, Float, length, get_or}
-use Rattle.std.proofs.Math.Option.{Option, none}
+use Rattle.std.specs.Prelude.{◌≡◌, true, false, cond, ◌||◌, List, [], ◌∷◌, ◌++◌, ℕ, eqb, ℤ, Float, length, get_or, Option, None}
 use Rattle.refusal.specs.Refusals.{lowest, size_if, length_if, count_if, bad_size}
 use Rattle.refusal.specs.Lengths.{bad_picture}
 use Rattle.picture.specs.Pixels.{filled}
@@ -22,7 +21,7 @@ refine_refusal w h red green blue shapes offers passes target first second =
 
 -- what is refined: trial k takes candidate k; past the end, nothing
 abbrev pub scene_of : ℕ → ℕ → Float → Float → Float → List (Option Shape) → List Float → Scene Shape (List Float)
-scene_of w h red green blue offers target = scene_with w h target (filled w h red green blue) (λ k. get_or offers k none)
+scene_of w h red green blue offers target = scene_with w h target (filled w h red green blue) (λ k. get_or offers k None)
 
 abbrev pub outcome : ℕ → ℕ → Float → Float → Float → List Shape → List (Option Shape) → ℕ → List Float → Progress Shape
 outcome w h red green blue shapes offers passes target = refined (scene_of w h red green blue offers target) passes shapes

@@ -1,10 +1,9 @@
 -- Laws: two answers of the refinement export are equal, and so is what they leave; the list keeps its length; what the call behind it promises is what the export promises.
-use Rattle.std.specs.Prelude.{◌≡◌, Bool, not, ◌||◌, List, ◌∷◌, ◌++◌, eqb, ℤ, Float, length}
+use Rattle.std.specs.Prelude.{◌≡◌, Bool, not, ◌||◌, List, ◌∷◌, ◌++◌, eqb, ℤ, Float, length, Option}
 use Rattle.std.proofs.Math.Path.{refl, sym, ap}
 use Rattle.std.proofs.Common.{subst, ◌∙◌, arith, eq-eqb, ne_eqb, eqb-true, lt-ltb}
 use Rattle.std.proofs.Math.Logic.{⊎_elim}
 use Rattle.std.proofs.Math.Bool.{true, false, cond}
-use Rattle.std.proofs.Math.Option.{Option}
 use Prim.Native.Nat.{ℕ, zero, suc, ◌*◌, ◌<◌}
 use Rattle.std.proofs.lemmas.Bool.{not-false}
 use Rattle.std.proofs.Math.Dec.{ltb}
@@ -28,7 +27,7 @@ use Rattle.refine.specs.declared.Refined.{Refined}
 use Rattle.traces.specs.Refinement.{Scene, Progress, nothing_yet, pass, passes, refined, drawn}
 use Rattle.traces.specs.RefinementLaws.{pass-length}
 use Rattle.refine.specs.Tests.{refusal_of, size_tests, range_tests}
-use Rattle.refine.specs.Answers.{Told, told, done_with, refused_with, RefineShapesSays}
+use Rattle.refine.specs.Answers.{number_in, Told, told, done_with, refused_with, RefineShapesSays}
 use Rattle.capi.specs.declared.SillbadgerAnswer.{SillbadgerAnswer}
 use Rattle.crossing.specs.Crossed.{sized_or, bad_list, Fits, shapes_of, offers_of, sizes_of, places_of, paints_of, WriteListSays}
 use Rattle.capi.specs.Answers.{refused_by, shapeless, with_counts}
@@ -194,7 +193,7 @@ module _ (w h : ℕ) (red green blue : Float) (target : List Float) (list : Shap
     told_as : told r ≡ cond (eqb number 0) (done_with out) (refused_with number list)
     told_as = says.answer ∙ ap (λ (n : ℕ). cond (eqb n 0) (done_with out) (refused_with n list)) same_number
 
-    pub number_is : r.refusal ≡ number
+    pub number_is : number_in r.refusal ≡ number
     number_is = ap (λ (t : Told). t.refusal) told_as ∙ by (eqb number 0) refl
       where
         by : (b : Bool) → eqb number 0 ≡ b → (cond b (done_with out) (refused_with number list)).refusal ≡ number
@@ -207,7 +206,7 @@ module _ (w h : ℕ) (red green blue : Float) (target : List Float) (list : Shap
     second_is : second' ≡ cond (eqb number 0) (drawn (scene_of w h red green blue (offered candidates) target) out.list) second
     second_is = says.left-second ∙ ap (λ (n : ℕ). cond (eqb n 0) (drawn (scene_of w h red green blue (offered candidates) target) out.list) second) same_number
 
-    pub refused_refines : (sizes : List ℕ) (zs : List ℤ) (paints : List Float) (a : SillbadgerAnswer) → (r.refusal ≡ 0 → ⊥) → a ≡ refused_by r.refusal
+    pub refused_refines : (sizes : List ℕ) (zs : List ℤ) (paints : List Float) (a : SillbadgerAnswer) → (number_in r.refusal ≡ 0 → ⊥) → a ≡ refused_by (number_in r.refusal)
         → Refines w h red green blue (listed list) (offered candidates) count target number sizes zs paints first second a sizes zs paints first' second'
     refused_refines sizes zs paints a o e =
         let z : number ≡ 0 → ⊥ = λ q. o (number_is ∙ q) in
@@ -220,7 +219,7 @@ module _ (w h : ℕ) (red green blue : Float) (target : List Float) (list : Shap
           left-second = second_is;
         }
 
-    module _ (o : r.refusal ≡ 0) where
+    module _ (o : number_in r.refusal ≡ 0) where
       done_as : told r ≡ done_with out
       done_as = told_as ∙ zero_is number (done_with out) (refused_with number list) (sym number_is ∙ o)
 

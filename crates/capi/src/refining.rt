@@ -65,9 +65,8 @@ fn refine_lists(
         first,
         second,
     );
-    let number = r.refusal;
-    if number != 0 {
-        return crate::refused(number);
+    if let Some(why) = r.refusal {
+        return crate::refused(why.number());
     }
     let shapes = r.shapes;
     crossing::lists::write_list(shapes, sizes, places, paints);

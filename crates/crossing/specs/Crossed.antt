@@ -1,6 +1,5 @@
 -- Rules: how a list of shapes crosses the C border: of each shape its number of coordinates, eight places for them, and four floats. Among candidates 0 coordinates are nothing.
-use Rattle.std.specs.Prelude.{◌≡◌, Bool, not, cond, ◌&&◌, ◌||◌, List, [], ◌∷◌, ℕ, ◌+◌, ◌*◌, ◌/◌, ◌%◌, eqb, ℤ, pos, Float, length, take, drop, get_or}
-use Rattle.std.proofs.Math.Option.{Option, none, some}
+use Rattle.std.specs.Prelude.{◌≡◌, Bool, not, cond, ◌&&◌, ◌||◌, List, [], ◌∷◌, ℕ, ◌+◌, ◌*◌, ◌/◌, ◌%◌, eqb, ℤ, pos, Float, length, take, drop, get_or, Option, None, Some}
 use Rattle.std.specs.Float.{nan}
 use Rattle.laws.specs.Every.{every}
 use Rattle.laws.specs.Tab.{tab}
@@ -39,7 +38,7 @@ shape_at sizes zs paints i = record {
 }
 
 unfoldable pub offer_at : List ℕ → List ℤ → List Float → ℕ → Option Shape
-offer_at sizes zs paints i = cond (eqb (get_or sizes i 0) 0) none (some (shape_at sizes zs paints i))
+offer_at sizes zs paints i = cond (eqb (get_or sizes i 0) 0) None (Some (shape_at sizes zs paints i))
 
 -- the shapes of a list, the candidates
 abbrev pub shapes_of : List ℕ → List ℤ → List Float → List Shape

@@ -1,8 +1,7 @@
 -- Laws: a list crosses in one way; lists one shape longer.
-use Rattle.std.specs.Prelude.{◌≡◌, Bool, true, false, ◌||◌, List, [], ◌∷◌, ◌++◌, map, ℕ, zero, suc, ◌+◌, ◌-◌, ◌*◌, ◌<◌, ◌≤◌, ℤ, pos, Float, length, take, drop, set, get_or}
+use Rattle.std.specs.Prelude.{◌≡◌, Bool, true, false, ◌||◌, List, [], ◌∷◌, ◌++◌, map, ℕ, zero, suc, ◌+◌, ◌-◌, ◌*◌, ◌<◌, ◌≤◌, ℤ, pos, Float, length, take, drop, set, get_or, Option}
 use Rattle.std.proofs.Math.Path.{refl, sym}
 use Rattle.std.proofs.Common.{ap, ◌∙◌, add-one, arith, length-take, length-drop, length-set, get_or-take, length-take-le}
-use Rattle.std.proofs.Math.Option.{Option}
 use Rattle.laws.specs.Fit.{no_both}
 use Rattle.laws.specs.Tab.{tab}
 use Rattle.laws.specs.TabLaws.{length-tab, get_d_tab}
@@ -12,9 +11,8 @@ use Rattle.shapes.specs.Blank.{blank}
 use Rattle.laws.specs.WithoutLaws.{pushed}
 use Rattle.shapes.specs.declared.Shape.{Shape}
 use Rattle.shapes.specs.declared.Shapes.{Shapes}
-use Rattle.shapes.specs.declared.Slot.{Slot}
 use Rattle.shapes.specs.declared.Candidates.{Candidates}
-use Rattle.shapes.specs.Lists.{listed, shape_in, offered}
+use Rattle.shapes.specs.Lists.{listed, offered}
 use Rattle.crossing.specs.Crossed.{place_in, entry, BadListSays, ReadListSays, ReadOffersSays, WriteListSays}
 
 module _ (sizes : List ℕ) (places : List ℤ) (paints : List Float) where
@@ -41,25 +39,9 @@ module _ {A : Type 0} (f : ℕ → A) where
   unfolding tab
   tab-more n = sym (ap (tab f) (add-one n))
 
-map-append : {A B : Type 0} (f : A → B) (k l : List A) → map f (k ++ l) ≡ map f k ++ map f l
-map-append f [] l = refl
-map-append f (x ∷ k) l = ap (λ r. f x ∷ r) (map-append f k l)
-
-pub items_next : (f : ℕ → Shape) (items : List Shape) (i : ℕ) (x : Shape) → i < length items → take i items ≡ tab f i → x ≡ f i → take (i + 1) (set items i x) ≡ tab f (i + 1)
-items_next f items i x h e g =
-    pushed items i x h ∙ ap (λ (l : List Shape). l ++ (x ∷ [])) e ∙ ap (λ (y : Shape). tab f i ++ (y ∷ [])) g ∙ tab-more f i
-
-abbrev held_in : Slot → Option Shape
-held_in s = shape_in s.what
-
-pub slots_next : (f : ℕ → Option Shape) (slots : List Slot) (i : ℕ) (x : Slot) → i < length slots → map (λ (s : Slot). shape_in s.what) (take i slots) ≡ tab f i
-    → shape_in x.what ≡ f i → map (λ (s : Slot). shape_in s.what) (take (i + 1) (set slots i x)) ≡ tab f (i + 1)
-slots_next f slots i x h e g =
-    ap (map held_in) (pushed slots i x h)
-    ∙ map-append held_in (take i slots) (x ∷ [])
-    ∙ ap (λ (l : List (Option Shape)). l ++ (shape_in x.what ∷ [])) e
-    ∙ ap (λ (y : Option Shape). tab f i ++ (y ∷ [])) g
-    ∙ tab-more f i
+pub items_next : {A : Type 0} (f : ℕ → A) (items : List A) (i : ℕ) (x : A) → i < length items → take i items ≡ tab f i → x ≡ f i → take (i + 1) (set items i x) ≡ tab f (i + 1)
+items_next {A = A} f items i x h e g =
+    pushed items i x h ∙ ap (λ (l : List A). l ++ (x ∷ [])) e ∙ ap (λ (y : A). tab f i ++ (y ∷ [])) g ∙ tab-more f i
 
 -- ---- tests
 pub or_yes : (a b : Bool) → a ≡ true → true ≡ (a || b)

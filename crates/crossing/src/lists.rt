@@ -3,7 +3,7 @@
 ghost use Rattle.std.specs.Prelude.{◌≡◌, false, not, ◌||◌, ◌*◌, ◌<◌, ◌≤◌, eqb, length};
 ghost use Rattle.laws.specs.Every.{every};
 ghost use Rattle.cover.specs.Cover.{places};
-ghost use Rattle.shapes.specs.Lists.{listed, shape_in};
+ghost use Rattle.shapes.specs.Lists.{listed};
 ghost use Rattle.crossing.specs.Crossed.{
   sized_or,
   Fits,
@@ -21,7 +21,7 @@ ghost use Rattle.crossing.specs.Crossed.{
 };
 
 use cover::Kind;
-use shapes::{Candidate, Candidates, Shape, Shapes, Slot};
+use shapes::{Candidates, Shape, Shapes};
 
 // Eight places and four floats for each of n shapes. Divided, since a product might not fit.
 fn bad_lengths(n: usize, places: usize, paints: usize) -> bool
@@ -51,13 +51,7 @@ fn size_fits(n: u8, gaps: bool) -> bool
 fn sizes_fit(sizes: &[u8], gaps: bool) -> bool
     ensures { result ≡ every (sized_or gaps) sizes.now }
 {
-    let mut ok = true;
-    let mut i = 0;
-    while i < sizes.len() {
-        ok = ok & size_fits(sizes[i], gaps);
-        i += 1;
-    }
-    ok
+    sizes.iter().all(|n| size_fits(*n, gaps))
 }
 
 // The slices are no list: their lengths do not fit each other, or a number of coordinates is one that no kind has. With
@@ -95,14 +89,14 @@ fn shape_at(sizes: &[u8], places: &[i32], paints: &[f32], i: usize) -> Shape
     }
 }
 
-fn offer_at(sizes: &[u8], places: &[i32], paints: &[f32], i: usize) -> Candidate
+fn offer_at(sizes: &[u8], places: &[i32], paints: &[f32], i: usize) -> Option<Shape>
     requires { (i < length sizes.now) × Fits sizes.now places.now paints.now }
-    ensures { shape_in result ≡ offer_at sizes.now places.now paints.now i }
+    ensures { result ≡ offer_at sizes.now places.now paints.now i }
 {
     if sizes[i] == 0 {
-        return Candidate::Nothing;
+        return None;
     }
-    Candidate::Some(shape_at(sizes, places, paints, i))
+    Some(shape_at(sizes, places, paints, i))
 }
 
 fn blank() -> Shape {
@@ -121,13 +115,9 @@ pub fn read_list(sizes: &[u8], places: &[i32], paints: &[f32]) -> Shapes
     ensures { ReadListSays sizes.now places.now paints.now result }
 {
     let n = sizes.len();
-    let x = blank();
-    let mut items = [x; 64];
-    let mut i = 0;
-    while i < n {
-        let s = shape_at(sizes, places, paints, i);
-        items[i] = s;
-        i += 1;
+    let mut items = [blank(); 64];
+    for i in 0..n {
+        items[i] = shape_at(sizes, places, paints, i);
     }
     Shapes { items, count: n }
 }
@@ -138,15 +128,9 @@ pub fn read_offers(sizes: &[u8], places: &[i32], paints: &[f32]) -> Candidates
     ensures { ReadOffersSays sizes.now places.now paints.now result }
 {
     let n = sizes.len();
-    let nothing = Slot {
-        what: Candidate::Nothing,
-    };
-    let mut slots = [nothing; 1024];
-    let mut i = 0;
-    while i < n {
-        let what = offer_at(sizes, places, paints, i);
-        slots[i] = Slot { what };
-        i += 1;
+    let mut slots = [None; 1024];
+    for i in 0..n {
+        slots[i] = offer_at(sizes, places, paints, i);
     }
     Candidates { slots, count: n }
 }
@@ -197,13 +181,8 @@ fn write_sizes(list: Shapes, sizes: &mut [u8])
     requires { (list.count ≡ length sizes.old) × (list.count ≤ 64) }
     ensures { sizes.new ≡ sizes_of (listed list) }
 {
-    let n = list.count;
-    let mut i = 0;
-    while i < n {
-        let x = list.items[i];
-        let kind = x.kind;
-        sizes[i] = size_of(kind);
-        i += 1;
+    for i in 0..list.count {
+        sizes[i] = size_of(list.items[i].kind);
     }
 }
 
@@ -211,13 +190,8 @@ fn write_places(list: Shapes, places: &mut [i32])
     requires { (length places.old ≡ list.count * 8) × (list.count ≤ 64) }
     ensures { places.new ≡ places_of (listed list) }
 {
-    let n = list.count * 8;
-    let mut k = 0;
-    while k < n {
-        let x = list.items[k / 8];
-        let kind = x.kind;
-        places[k] = place_of(kind, k % 8);
-        k += 1;
+    for k in 0..list.count * 8 {
+        places[k] = place_of(list.items[k / 8].kind, k % 8);
     }
 }
 
@@ -225,12 +199,8 @@ fn write_paints(list: Shapes, paints: &mut [f32])
     requires { (length paints.old ≡ list.count * 4) × (list.count ≤ 64) }
     ensures { paints.new ≡ paints_of (listed list) }
 {
-    let n = list.count * 4;
-    let mut k = 0;
-    while k < n {
-        let x = list.items[k / 4];
-        paints[k] = paint_of(x, k % 4);
-        k += 1;
+    for k in 0..list.count * 4 {
+        paints[k] = paint_of(list.items[k / 4], k % 4);
     }
 }
 

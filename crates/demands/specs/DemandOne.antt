@@ -46,7 +46,7 @@ use Rattle.traces.specs.Refinement.{Progress, drawn, refined}
 use Rattle.traces.specs.Scenes.{scene_of}
 use Rattle.refine.specs.declared.Refined.{Refined}
 use Rattle.refine.specs.Tests as refine
-use Rattle.refine.specs.Answers.{Told, told, done_with, refused_with, RefineShapesSays}
+use Rattle.refine.specs.Answers.{number_in, Told, told, done_with, refused_with, RefineShapesSays}
 
 -- ---- the numbers
 
@@ -189,12 +189,12 @@ module _ (w h : ℕ) (red green blue : Float) (target : List Float) (list : Shap
   number-told true n e = sym (eqb-true n 0 e)
   number-told false n e = refl
 
-  pub refinement_refuses_as_tabled : r.refusal ≡ lowest refinement_tests
+  pub refinement_refuses_as_tabled : number_in r.refusal ≡ lowest refinement_tests
   unfolding refine.refusal_of
   refinement_refuses_as_tabled = ap (λ (t : Told). t.refusal) says.answer ∙ number-told (eqb (lowest refinement_tests) 0) (lowest refinement_tests) refl
 
   -- "but for a shape list, which comes back as handed in; no lent number has changed"
-  pub refused_refinement_changes_nothing : (r.refusal ≡ 0 → ⊥) → (told r ≡ refused_with r.refusal list) × (first' ≡ first) × (second' ≡ second)
+  pub refused_refinement_changes_nothing : (number_in r.refusal ≡ 0 → ⊥) → (told r ≡ refused_with (number_in r.refusal) list) × (first' ≡ first) × (second' ≡ second)
   unfolding refine.refusal_of
   refused_refinement_changes_nothing given =
       let n = lowest refinement_tests in

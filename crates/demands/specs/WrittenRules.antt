@@ -1,9 +1,8 @@
 -- Laws: demand 2, more sentences of document 01, in the order of its text, each as what the promises say.
-use Rattle.std.specs.Prelude.{◌≡◌, Bool, true, false, cond, ◌||◌, ◌↔◌, ℕ, ◌+◌, ◌*◌, ◌^◌, ◌<◌, ◌≤◌, eqb, ℤ, pos, ◌≤ℤ◌, length, get_or, Float}
+use Rattle.std.specs.Prelude.{◌≡◌, Bool, true, false, cond, ◌||◌, ◌↔◌, ℕ, ◌+◌, ◌*◌, ◌^◌, ◌<◌, ◌≤◌, eqb, ℤ, pos, ◌≤ℤ◌, length, get_or, Float, Some}
 use Rattle.std.proofs.Math.Path.{refl, ap}
 use Rattle.std.proofs.Common.{sym, ◌∙◌}
 use mathlib.Core.List.{List, [], ◌∷◌, ◌++◌}
-use Rattle.std.proofs.Math.Option.{some}
 use borrow.Author.Tests.{eq-eqb, ne_eqb, lt-ltb}
 use Rattle.std.specs.Int.Signed.{le_z, lt_z}
 use Rattle.std.specs.Float.Ieee.{nan, lt, up, down, round, of_int, of_bits, to_bits}
@@ -124,7 +123,7 @@ module _ (s : ShapeSums) (a : Float) where
   unfolding finalized no_score
   nothing_covered_scores_nothing z = rw (eq-eqb s.count 0 z) refl
 
-  module _ (some : s.count ≡ 0 → ⊥) where
+  module _ (Some : s.count ≡ 0 → ⊥) where
     -- a channel's colour
     abbrev ruled : ℕ → Float
     ruled ch = narrowed (clamped (cond (lt nought (a ⊗ count_of s)) ((channel s.s_t ch ⊖ rest a ⊗ channel s.s_c ch) ⊘ (a ⊗ count_of s)) nought))
@@ -132,13 +131,13 @@ module _ (s : ShapeSums) (a : Float) where
     -- "denom = a·count; each channel p = (t - m·c)/denom if denom > 0, else 0; below 0 becomes 0, above 1 becomes 1; narrowed to f32"
     pub colour_by_the_rule : ((finalized s a).red ≡ ruled 0) × ((finalized s a).green ≡ ruled 1) × ((finalized s a).blue ≡ ruled 2)
     unfolding finalized colour_at colour_of
-    colour_by_the_rule = let n = ne_eqb s.count 0 some in (rw n refl, rw n refl, rw n refl)
+    colour_by_the_rule = let n = ne_eqb s.count 0 Some in (rw n refl, rw n refl, rw n refl)
 
     -- "The change is after minus before, narrowed, each added over channels 0, 1, 2 from +0"
     pub change_by_the_rule : (finalized s a).change
         ≡ narrowed ((nought ⊕ after_at s a 0 ⊕ after_at s a 1 ⊕ after_at s a 2) ⊖ (nought ⊕ before_at s 0 ⊕ before_at s 1 ⊕ before_at s 2))
     unfolding finalized wide_change
-    change_by_the_rule = rw (ne_eqb s.count 0 some) refl
+    change_by_the_rule = rw (ne_eqb s.count 0 Some) refl
 
 -- "Sweep: the first level with the strictly smallest change, starting from infinity"
 pub sweep_takes_the_first_best : (s : ShapeSums) (levels : List Float) (n : ℕ)
@@ -201,7 +200,7 @@ few_shapes_stay g p l few = rw (lt-ltb (length l) 2 few) (by (eqb p 0))
 
 -- "It is accepted exactly when new + 1e-9 < old": old is the total of the whole list drawn, new that of the picture without shape j, the candidate painted on top
 pub accepted_exactly_when_lower : {S P : Type 0} (g : Scene S P) (l : List S) (j : ℕ) (s : S)
-    → (trial g l j (some s)).outcome
+    → (trial g l j (Some s)).outcome
     ≡ cond (lt (g.total (g.paint s (drawn g (without j l))) ⊕ round binary64 false 1 1000000000) (g.total (drawn g l))) (accepted s) not_lower
 unfolding trial lower
 accepted_exactly_when_lower g l j s = refl

@@ -1,5 +1,7 @@
 -- Rules: what refinement answers, and what it leaves in the two work pictures.
-use Rattle.std.specs.Prelude.{◌≡◌, cond, List, ℕ, eqb, Float, length}
+use Rattle.std.specs.Prelude.{◌≡◌, cond, List, ℕ, eqb, Float, length, Option, None, Some}
+use Rattle.refusal.specs.declared.Refusal.{Refusal}
+use Rattle.refusal.specs.Outcomes.{number}
 use Rattle.shapes.specs.declared.Shape.{Shape}
 use Rattle.shapes.specs.declared.Shapes.{Shapes}
 use Rattle.shapes.specs.declared.Candidates.{Candidates}
@@ -18,9 +20,14 @@ pub record Told : Type 0 where
   pub trials : ℕ
   pub acceptances : ℕ
 
+-- the number of a refusal, 0 where there is none
+abbrev pub number_in : Option Refusal → ℕ
+number_in None = 0
+number_in (Some why) = number why
+
 abbrev pub told : Refined → Told
 told r = record {
-  refusal = r.refusal;
+  refusal = number_in r.refusal;
   count = r.shapes.count;
   list = listed r.shapes;
   passes = r.passes;

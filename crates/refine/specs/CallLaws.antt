@@ -1,7 +1,6 @@
 -- Laws: refinement as one call: what the tests give to the trials, and the trials to the answer.
-use Rattle.std.specs.Prelude.{◌≡◌, refl, Bool, true, false, ◌&&◌, cond, List, [], ◌∷◌, ◌++◌, map, ℕ, ◌+◌, ◌-◌, ◌*◌, ◌≤◌, ◌<◌, T, eqb, ltb, Float, length, take, get_or}
+use Rattle.std.specs.Prelude.{◌≡◌, refl, Bool, true, false, ◌&&◌, cond, List, [], ◌∷◌, ◌++◌, map, ℕ, ◌+◌, ◌-◌, ◌*◌, ◌≤◌, ◌<◌, T, eqb, ltb, Float, length, take, get_or, Option, None, Some}
 use Rattle.std.proofs.Common.{sym, ap, ◌∙◌, subst, append_assoc, append-nil, arith, ltb-true, ltb-false, eqb-true}
-use Rattle.std.proofs.Math.Option.{Option, none, some}
 use Rattle.std.proofs.lemmas.Bool.{eqb-false}
 use Rattle.std.specs.Float.Ieee.Fits.{and_l, and_r}
 use Rattle.laws.specs.Every.{every}
@@ -9,10 +8,9 @@ use Rattle.laws.specs.EveryLaws.{every_append}
 use Rattle.refusal.specs.Refusals.{Sized}
 use Rattle.shapes.specs.declared.Shape.{Shape}
 use Rattle.shapes.specs.declared.Shapes.{Shapes}
-use Rattle.shapes.specs.declared.Slot.{Slot}
 use Rattle.shapes.specs.declared.Candidates.{Candidates}
 use Rattle.shapes.specs.declared.Ranges.{Ranges}
-use Rattle.shapes.specs.Lists.{listed, shape_in, offered}
+use Rattle.shapes.specs.Lists.{listed, offered}
 use Rattle.shapes.specs.Ranges.{fits, ranges_of, both, shapes_in}
 use Rattle.shapes.specs.RangeLaws.{both-append, shapes-more, offered-at, offered_past, fits-offered}
 use Rattle.trials.specs.declared.Course.{Course}
@@ -24,17 +22,17 @@ use Rattle.refine.specs.Passes.{untried, restarted}
 use Rattle.refine.specs.CourseLaws.{During, Between, now_zipped, place_below, between_start, between_last, between_more}
 
 -- ---- the candidates looked at, one after another
-abbrev pub looked_up_to : Shapes → List Slot → ℕ → List Shape
-looked_up_to list slots i = listed list ++ shapes_in (map (λ (s : Slot). shape_in s.what) (take i slots))
+abbrev pub looked_up_to : Shapes → List (Option Shape) → ℕ → List Shape
+looked_up_to list slots i = listed list ++ shapes_in (take i slots)
 
-pub look_none : (list : Shapes) (slots : List Slot) (r : Ranges) → r ≡ ranges_of (listed list) → r ≡ ranges_of (looked_up_to list slots 0)
+pub look_none : (list : Shapes) (slots : List (Option Shape)) (r : Ranges) → r ≡ ranges_of (listed list) → r ≡ ranges_of (looked_up_to list slots 0)
 look_none list slots r e = e ∙ ap ranges_of (sym (append-nil (listed list)))
 
-pub look_more : (list : Shapes) (slots : List Slot) (i : ℕ) (d : Slot) (r q : Ranges) → i < length slots → r ≡ ranges_of (looked_up_to list slots i)
-    → q ≡ both r (ranges_of (shapes_in (shape_in (get_or slots i d).what ∷ []))) → q ≡ ranges_of (looked_up_to list slots (i + 1))
+pub look_more : (list : Shapes) (slots : List (Option Shape)) (i : ℕ) (d : Option Shape) (r q : Ranges) → i < length slots → r ≡ ranges_of (looked_up_to list slots i)
+    → q ≡ both r (ranges_of (shapes_in (get_or slots i d ∷ []))) → q ≡ ranges_of (looked_up_to list slots (i + 1))
 look_more list slots i d r q h e f =
-    let one = shapes_in (shape_in (get_or slots i d).what ∷ []) in
-    let so_far = shapes_in (map (λ (s : Slot). shape_in s.what) (take i slots)) in
+    let one = shapes_in (get_or slots i d ∷ []) in
+    let so_far = shapes_in (take i slots) in
     f
     ∙ ap (λ (x : Ranges). both x (ranges_of one)) e
     ∙ both-append (listed list ++ so_far) one
@@ -52,17 +50,17 @@ module _ (list : Shapes) (candidates : Candidates) (h : T (every fits (looked_at
   offers_fit = and_r (every fits (listed list)) (every fits (shapes_in (offered candidates))) both_fit
 
 -- ---- the candidate of trial k
-pub offer_at_lem : (candidates : Candidates) (k : ℕ) (d : Slot) → candidates.count ≤ length candidates.slots
-    → get_or (offered candidates) k none ≡ cond (ltb k candidates.count) (shape_in (get_or candidates.slots k d).what) none
+pub offer_at_lem : (candidates : Candidates) (k : ℕ) (d : Option Shape) → candidates.count ≤ length candidates.slots
+    → get_or (offered candidates) k None ≡ cond (ltb k candidates.count) (get_or candidates.slots k d) None
 offer_at_lem candidates k d l = by (ltb k candidates.count) refl
   where
-    by : (b : Bool) → ltb k candidates.count ≡ b → get_or (offered candidates) k none ≡ cond b (shape_in (get_or candidates.slots k d).what) none
+    by : (b : Bool) → ltb k candidates.count ≡ b → get_or (offered candidates) k None ≡ cond b (get_or candidates.slots k d) None
     by true e = offered-at candidates k d (ltb-true k candidates.count e) l
     by false e = offered_past candidates k (ltb-false k candidates.count e)
 
-pub offer_fits : (l : List (Option Shape)) (k : ℕ) (o : Option Shape) → T (every fits (shapes_in l)) → get_or l k none ≡ o → CandidateFits o
-offer_fits l k none h e = tt
-offer_fits l k (some x) h e = fits-offered l k x h e
+pub offer_fits : (l : List (Option Shape)) (k : ℕ) (o : Option Shape) → T (every fits (shapes_in l)) → get_or l k None ≡ o → CandidateFits o
+offer_fits l k None h e = tt
+offer_fits l k (Some x) h e = fits-offered l k x h e
 
 module _ (g : Scene Shape (List Float)) (size : ℕ) (q : List Shape → Aids → Type 0) where
   -- ---- before the first pass

@@ -1,5 +1,5 @@
 -- Rules: the forms in which passes are proved: the course before the first trial, at the beginning of a pass, and as it is answered. The answer's promise does not rest on them.
-use Rattle.std.specs.Prelude.{◌+◌, Float}
+use Rattle.std.specs.Prelude.{◌+◌, Float, None}
 use Rattle.shapes.specs.declared.Shapes.{Shapes}
 use Rattle.trials.specs.declared.Course.{Course}
 use Rattle.refine.specs.declared.Refined.{Refined}
@@ -14,4 +14,4 @@ restarted c = record { list = c.list; place = 0; passes = c.passes + 1; trials =
 
 -- what is answered at the end
 abbrev pub answered : Course → Refined
-answered c = record { refusal = 0; shapes = c.list; passes = c.passes; trials = c.trials; acceptances = c.acceptances }
+answered c = record { refusal = None; shapes = c.list; passes = c.passes; trials = c.trials; acceptances = c.acceptances }

@@ -1,14 +1,15 @@
 -- Laws: what passed tests give, and the refusal's number from the two parts of the table.
-use Rattle.std.specs.Prelude.{◌≡◌, refl, Bool, true, false, not, ◌||◌, List, [], ◌++◌, ℕ, ◌*◌, ◌≤◌, T, ltb, Float, length}
+use Rattle.std.specs.Prelude.{◌≡◌, refl, Bool, true, false, cond, eqb, not, ◌||◌, List, [], ◌++◌, ℕ, ◌*◌, ◌≤◌, T, ltb, Float, length}
 use Rattle.std.proofs.Math.Path.{sym, ap}
-use Rattle.std.proofs.Common.{subst, ◌∙◌, ltb-false}
+use Rattle.std.proofs.Common.{subst, ◌∙◌, ltb-false, eqb-true}
+use Rattle.std.proofs.lemmas.Bool.{eqb-false}
 use Rattle.laws.specs.Bools.{true_is, or_left, or_right}
 use Rattle.laws.specs.Fit.{no_both}
 use Rattle.laws.specs.Every.{every}
 use Rattle.float.specs.Within.{all_within}
 use Rattle.refusal.specs.Refusals.{Test, Sized, lowest, size_if, length_if, count_if, place_if, opacity_if, colour_if, pixel_if}
 use Rattle.refusal.specs.RefusalLaws.{lowest-none, sized}
-use Rattle.refusal.specs.ChainLaws.{lowest-chain, chain_stop, chain_on}
+use Rattle.refusal.specs.ChainLaws.{chain, chain-append, lowest-chain, chain_stop, chain_on}
 use Rattle.refusal.specs.Lengths.{bad_picture}
 use Rattle.refusal.specs.LengthLaws.{picture_length}
 use Rattle.picture.specs.Pixels.{bad_colour}
@@ -96,3 +97,16 @@ module _ (w h : ℕ) (red green blue : Float) (target : List Float) (list : Shap
       ∙ chain_on sizes t tt (sym (lowest-chain sizes tt) ∙ sym e)
       ∙ sym (lowest-chain t tt)
       ∙ ap (λ (x : Ranges). lowest (range_tests x red green blue target)) (sym q)
+
+  -- no refusal: neither part has one
+  pub none_refused : refusal_of w h red green blue target list candidates passes first second ≡ 0
+      → (0 ≡ lowest (size_tests w h (length target) first second list.count candidates.count passes)) × (0 ≡ lowest (range_tests (ranges_of (looked_at list candidates)) red green blue target))
+  unfolding refusal_of sizes
+  none_refused e =
+      let t = range_tests (ranges_of (looked_at list candidates)) red green blue target in
+      by (eqb (chain sizes) 0) refl (sym (chain-append sizes t tt) ∙ sym (lowest-chain (sizes ++ t) tt) ∙ e)
+    where
+      by : (b : Bool) → eqb (chain sizes) 0 ≡ b → cond b (chain (range_tests (ranges_of (looked_at list candidates)) red green blue target)) (chain sizes) ≡ 0
+          → (0 ≡ lowest (size_tests w h (length target) first second list.count candidates.count passes)) × (0 ≡ lowest (range_tests (ranges_of (looked_at list candidates)) red green blue target))
+      by true p z = (sym (lowest-chain sizes tt ∙ eqb-true (chain sizes) 0 p), sym (lowest-chain (range_tests (ranges_of (looked_at list candidates)) red green blue target) tt ∙ z))
+      by false p z = absurd (eqb-false (chain sizes) 0 p z)

@@ -1,13 +1,12 @@
 // Before the trials and after them.
-ghost use Rattle.std.specs.Prelude.{◌≡◌, false, cond, List, ◌*◌, ◌<◌, ◌≤◌, T, eqb, ltb, length};
-ghost use Rattle.std.proofs.Math.Option.{none};
+ghost use Rattle.std.specs.Prelude.{◌≡◌, false, cond, List, ◌*◌, ◌<◌, ◌≤◌, T, eqb, ltb, length, get_or, None};
 ghost use Rattle.std.proofs.Math.Seq.{slice};
 ghost use Rattle.float.specs.Within.{all_within};
 ghost use Rattle.refusal.specs.Refusals.{Sized};
 ghost use Rattle.tally.specs.Tally.{total_of};
 ghost use Rattle.picture.specs.Pixels.{bad_colour, filled};
 ghost use Rattle.shapes.specs.declared.Shape.{Shape};
-ghost use Rattle.shapes.specs.Lists.{listed, shape_in};
+ghost use Rattle.shapes.specs.Lists.{listed, offered};
 ghost use Rattle.traces.specs.Refinement.{painted_on};
 ghost use Rattle.traces.specs.Scenes.{shape_painted};
 ghost use Rattle.traces.specs.Traces.{Drawable, Traced, Tabled};
@@ -15,7 +14,7 @@ ghost use Rattle.trials.specs.Courses.{Targeted, SummedTo, aids_of, Aided};
 ghost use Rattle.refine.specs.Passes.{untried, restarted, answered};
 
 use crate::Refined;
-use shapes::{Candidate, Shapes};
+use shapes::{Candidates, Shape, Shapes};
 use trials::Course;
 
 // ---- pictures
@@ -46,11 +45,9 @@ fn sum_rows(w: usize, h: usize, target: &[f32], canvas: &[f32], sums: &mut [f64;
 {
     let mut sum = 0.0f64;
     sums[0] = sum;
-    let mut y = 0;
-    while y < h {
+    for y in 0..h {
         sum = tally::running::total_on(target, canvas, y * w * 3, w * 3, sum);
         sums[y + 1] = sum;
-        y += 1;
     }
 }
 
@@ -138,14 +135,15 @@ pub(crate) fn still(c: Course, before: usize, limit: usize) -> usize
     limit
 }
 
-// Past the end of the candidates there is nothing.
-pub(crate) fn offer(here: bool, what: Candidate) -> Candidate
-    ensures { shape_in result ≡ cond here (shape_in what) none }
+// Candidate k; past the end of the candidates there is nothing.
+pub(crate) fn offer(candidates: &Candidates, k: usize) -> Option<Shape>
+    requires { candidates.now.count ≤ 1024 }
+    ensures { result ≡ get_or (offered candidates.now) k None }
 {
-    if here {
-        return what;
+    if k < candidates.count {
+        return candidates.slots[k];
     }
-    Candidate::Nothing
+    None
 }
 
 // ---- after
@@ -176,7 +174,7 @@ pub(crate) fn answer(c: Course) -> Refined
 {
     let shapes = c.list;
     Refined {
-        refusal: 0,
+        refusal: None,
         shapes,
         passes: c.passes,
         trials: c.trials,

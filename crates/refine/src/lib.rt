@@ -2,17 +2,19 @@
 #![tactic(auto)]
 
 ghost use Rattle.std.specs.Prelude.{◌≡◌};
+ghost use Rattle.refusal.specs.Outcomes.{number};
 ghost use Rattle.refine.specs.Answers.{told, refused_with, RefineShapesSays};
 
+use refusal::Refusal;
 use shapes::{Candidates, Shapes};
 
 pub(crate) mod courses;
 pub(crate) mod tests;
 
-// What refinement answers. Refused: the number, the list as handed in, and all else 0.
+// What refinement answers. Refused: why, the list as handed in, and all else 0.
 #[derive(Clone, Copy)]
 pub struct Refined {
-    pub refusal: u8,
+    pub refusal: Option<Refusal>,
     pub shapes: Shapes,
     pub passes: usize,
     pub trials: usize,
@@ -20,11 +22,11 @@ pub struct Refined {
 }
 
 // The list as handed in, all else zero.
-fn refuse(number: u8, list: Shapes) -> Refined
-    ensures { told result ≡ refused_with number list }
+fn refuse(why: Refusal, list: Shapes) -> Refined
+    ensures { told result ≡ refused_with (number why) list }
 {
     Refined {
-        refusal: number,
+        refusal: Some(why),
         shapes: list,
         passes: 0,
         trials: 0,
@@ -48,33 +50,23 @@ pub fn refine_shapes(
 ) -> Refined
     ensures { RefineShapesSays w h red green blue target.now list candidates passes first.old second.old result first.new second.new }
 {
-    let n = list.count;
-    let offers = candidates.count;
-    let number = tests::size_refusal(
+    let tested = tests::tested(
+        list,
+        &candidates,
+        passes,
+        red,
+        green,
+        blue,
         w,
         h,
-        target.len(),
+        target,
         first.len(),
         second.len(),
-        n,
-        offers,
-        passes,
     );
-    if number != 0 {
-        return refuse(number, list);
+    if let Err(why) = tested {
+        return refuse(why, list);
     }
-    let mut ranges = shapes::look_through(list);
-    let mut i = 0;
-    while i < offers {
-        let slot = candidates.slots[i];
-        let what = slot.what;
-        ranges = shapes::look_at(ranges, what);
-        i += 1;
-    }
-    let number = tests::range_refusal(ranges, red, green, blue, target);
-    if number != 0 {
-        return refuse(number, list);
-    }
+    let n = list.count;
     let mut sums = [0.0f64; 257];
     let mut runs = [0u16; 33280];
     let mut paints = [0.0f32; 260];
@@ -96,12 +88,8 @@ pub fn refine_shapes(
     while c.passes < limit {
         let before = c.acceptances;
         c = courses::restart(w, h, red, green, blue, c, first);
-        let mut t = 0;
-        while t < n {
-            let k = c.trials;
-            let slot = candidates.slots[k];
-            let what = slot.what;
-            let what = courses::offer(k < offers, what);
+        for t in 0..n {
+            let what = courses::offer(&candidates, c.trials);
             c = trials::step(
                 w,
                 h,
@@ -114,7 +102,6 @@ pub fn refine_shapes(
                 &mut runs,
                 &mut paints,
             );
-            t += 1;
         }
         limit = courses::still(c, before, limit);
     }

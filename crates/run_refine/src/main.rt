@@ -6,7 +6,8 @@ ghost use Rattle.std.specs.Prelude.{◌≡◌, ◌*◌, ◌<◌, ◌≤◌, leng
 
 use cover::Kind;
 use refine::Refined;
-use shapes::{Candidate, Candidates, Shape, Shapes, Slot};
+use refusal::Refusal;
+use shapes::{Candidates, Shape, Shapes};
 use std::io;
 
 // ---- draws
@@ -76,25 +77,21 @@ fn shape(seed: u64, k: usize) -> Shape
 }
 
 // One in eight is nothing. Candidates are drawn behind the shapes of the list.
-fn offer(seed: u64, k: usize) -> Candidate
+fn offer(seed: u64, k: usize) -> Option<Shape>
     requires { (seed < 1000) × (k < 1024) }
 {
     if byte(seed, k + 64, 13) < 32 {
-        return Candidate::Nothing;
+        return None;
     }
-    Candidate::Some(shape(seed, k + 64))
+    Some(shape(seed, k + 64))
 }
 
 fn list_of(seed: u64, n: usize) -> Shapes
     requires { seed < 1000 }
 {
-    let x = shape(seed, 0);
-    let mut items = [x; 64];
-    let mut i = 0;
-    while i < 64 {
-        let s = shape(seed, i);
-        items[i] = s;
-        i += 1;
+    let mut items = [shape(seed, 0); 64];
+    for i in 0..64 {
+        items[i] = shape(seed, i);
     }
     Shapes { items, count: n }
 }
@@ -102,10 +99,8 @@ fn list_of(seed: u64, n: usize) -> Shapes
 fn draw_target(seed: u64, target: &mut [f32])
     requires { (seed < 1000) × (length target.old ≤ 576) }
 {
-    let mut i = 0;
-    while i < target.len() {
+    for i in 0..target.len() {
         target[i] = channel(seed, i, 14);
-        i += 1;
     }
 }
 
@@ -118,10 +113,8 @@ fn number(rt: &impl Print, n: usize) -> io::Result<()> {
 
 fn checksum(p: &[f32]) -> u64 {
     let mut sum = 0u64;
-    let mut i = 0;
-    while i < p.len() {
-        sum = (sum * 31 + float::bits32(p[i]) as u64) % 4294967291;
-        i += 1;
+    for x in p {
+        sum = (sum * 31 + float::bits32(*x) as u64) % 4294967291;
     }
     sum
 }
@@ -129,13 +122,9 @@ fn checksum(p: &[f32]) -> u64 {
 // The shapes by their opacities.
 fn write_list(rt: &impl Print, list: Shapes) -> io::Result<()> {
     show::text(rt, " list")?;
-    let n = whole::min_usize(list.count, 64);
-    let mut i = 0;
-    while i < n {
-        let s = list.items[i];
+    for s in &list.items[..list.count.min(64)] {
         show::text(rt, " ")?;
         show::hex(rt, float::bits32(s.opacity) as u64, 8)?;
-        i += 1;
     }
     Ok(())
 }
@@ -147,12 +136,16 @@ fn labelled(rt: &impl Print, label: &str, n: usize) -> io::Result<()> {
 
 fn write_counts(
     rt: &impl Print,
-    refusal: u8,
+    refusal: Option<Refusal>,
     passes: usize,
     trials: usize,
     acceptances: usize,
 ) -> io::Result<()> {
-    labelled(rt, ": refusal", refusal as usize)?;
+    let no = match refusal {
+        None => 0,
+        Some(why) => why.number(),
+    };
+    labelled(rt, ": refusal", no as usize)?;
     labelled(rt, " passes", passes)?;
     labelled(rt, " trials", trials)?;
     labelled(rt, " accepted", acceptances)
@@ -178,16 +171,9 @@ fn write_answer(rt: &impl Print, r: Refined, first: &[f32], second: &[f32]) -> i
 fn offers(seed: u64, m: usize) -> Candidates
     requires { seed < 1000 }
 {
-    let nothing = Slot {
-        what: Candidate::Nothing,
-    };
-    let mut slots = [nothing; 1024];
-    let end = whole::min_usize(m, 1024);
-    let mut i = 0;
-    while i < end {
-        let what = offer(seed, i);
-        slots[i] = Slot { what };
-        i += 1;
+    let mut slots = [None; 1024];
+    for i in 0..m.min(1024) {
+        slots[i] = offer(seed, i);
     }
     Candidates { slots, count: m }
 }
@@ -303,11 +289,8 @@ fn two_off_the_picture() -> Shapes {
 
 fn one_offer(red: f32, green: f32, blue: f32) -> Candidates {
     let right = circle(2, 0, red, green, blue);
-    let slot = Slot {
-        what: Candidate::Some(right),
-    };
     Candidates {
-        slots: [slot; 1024],
+        slots: [Some(right); 1024],
         count: 1,
     }
 }

@@ -1,7 +1,7 @@
 -- Laws: each promise has one answer; ranges of lists put together; candidates one after another, and the candidate of a trial.
-use Rattle.std.specs.Prelude.{◌≡◌, refl, Bool, true, false, ◌&&◌, List, [], ◌∷◌, ◌++◌, map, ℕ, zero, suc, ◌+◌, ◌<◌, ◌≤◌, min, T, length, take, get_or}
+use Rattle.std.specs.Prelude.{◌≡◌, refl, Bool, true, false, ◌&&◌, List, [], ◌∷◌, ◌++◌, map, ℕ, zero, suc, ◌+◌, ◌<◌, ◌≤◌, min, T, length, take, get_or, Option, None, Some}
 use Rattle.std.proofs.Common.{sym, ap, subst, ◌∙◌, add-one, arith, ⊎_elim, length-take, take-suc, take_all, get_or-take}
-use Rattle.std.proofs.Math.Option.{Option, none, some, some-injective}
+use Rattle.std.proofs.lemmas.Option.{same_Some}
 use Rattle.std.specs.Float.Ieee.Fits.{and_i, and_l, and_r}
 use Rattle.std.proofs.lemmas.List.{length-map}
 use Rattle.std.proofs.Math.ListN.{get_or-map, get_or-eq_default}
@@ -11,17 +11,15 @@ use Rattle.laws.specs.EveryLaws.{every_append}
 use Rattle.shapes.specs.declared.Shape.{Shape}
 use Rattle.shapes.specs.declared.Shapes.{Shapes}
 use Rattle.shapes.specs.declared.Ranges.{Ranges}
-use Rattle.shapes.specs.declared.Candidate.{Candidate}
-use Rattle.shapes.specs.declared.Slot.{Slot}
 use Rattle.shapes.specs.declared.Candidates.{Candidates}
-use Rattle.shapes.specs.Lists.{listed, shape_in, offered, ExchangeSays}
+use Rattle.shapes.specs.Lists.{listed, offered, ExchangeSays}
 use Rattle.shapes.specs.Ranges.{places_fit, opacity_fits, colour_fits, fits, ranges_of, both, shapes_in, LookAtSays, LookThroughSays}
 
 -- lists are compared below their count
 pub ExchangeSays-unique : (s : Shapes) (j : ℕ) (x : Shape) (r q : Shapes) → ExchangeSays s j x r → ExchangeSays s j x q → (r.count ≡ q.count) × (listed r ≡ listed q)
 ExchangeSays-unique s j x r q p p' = (p.0 ∙ sym p'.0, p.2 ∙ sym p'.2)
 
-pub LookAtSays-unique : (r : Ranges) (what : Candidate) (q s : Ranges) → LookAtSays r what q → LookAtSays r what s → q ≡ s
+pub LookAtSays-unique : (r : Ranges) (what : Option Shape) (q s : Ranges) → LookAtSays r what q → LookAtSays r what s → q ≡ s
 LookAtSays-unique r what q s e f = e ∙ sym f
 
 pub LookThroughSays-unique : (s : Shapes) (q r : Ranges) → LookThroughSays s q → LookThroughSays s r → q ≡ r
@@ -71,7 +69,7 @@ module _ (s : Shape) (h : T (fits s)) where
   unfolding fits
   fits_colour = and_r (places_fit s && opacity_fits s) (colour_fits s) h
 
--- a loop over the items, of which at most 64 are looked at
+-- a loop over the items
 pub items_more : (l : List Shape) (i : ℕ) (d : Shape) (r q : Ranges) → i < length l → r ≡ ranges_of (take i l) → q ≡ both r (ranges_of (get_or l i d ∷ [])) → q ≡ ranges_of (take (i + 1) l)
 items_more l i d r q h e f =
     f
@@ -79,28 +77,18 @@ items_more l i d r q h e f =
     ∙ both-append (take i l) (get_or l i d ∷ [])
     ∙ ap ranges_of (sym (take-suc l i d h) ∙ ap (λ (k : ℕ). take k l) (sym (add-one i)))
 
--- counts beyond the items add nothing
-pub take_least : {A : Type 0} (l : List A) (n k : ℕ) → length l ≡ k → take (min n k) l ≡ take n l
-take_least l n k e = ⊎_elim (λ (h : n ≤ k). ap (λ (m : ℕ). take m l) {x = min n k} {y = n} (omega arith)) (λ (h : k < n). ap (λ (m : ℕ). take m l) {x = min n k} {y = k} (omega arith) ∙ take_all k l (omega arith) ∙ sym (take_all n l (omega arith))) (le-or-lt n k)
-
 -- ---- candidates
 shapes-last : (l : List (Option Shape)) (o : Option Shape) → shapes_in (l ++ (o ∷ [])) ≡ shapes_in l ++ shapes_in (o ∷ [])
 shapes-last [] o = refl
-shapes-last (none ∷ l) o = shapes-last l o
-shapes-last (some s ∷ l) o = ap (λ (r : List Shape). s ∷ r) (shapes-last l o)
-
-map-append : {A B : Type 0} (f : A → B) (k l : List A) → map f (k ++ l) ≡ map f k ++ map f l
-map-append f [] l = refl
-map-append f (x ∷ k) l = ap (λ r. f x ∷ r) (map-append f k l)
+shapes-last (None ∷ l) o = shapes-last l o
+shapes-last (Some s ∷ l) o = ap (λ (r : List Shape). s ∷ r) (shapes-last l o)
 
 -- one slot more
-pub shapes-more : (slots : List Slot) (k : ℕ) (d : Slot) → k < length slots
-    → shapes_in (map (λ (s : Slot). shape_in s.what) (take (k + 1) slots))
-    ≡ shapes_in (map (λ (s : Slot). shape_in s.what) (take k slots)) ++ shapes_in (shape_in (get_or slots k d).what ∷ [])
+pub shapes-more : (slots : List (Option Shape)) (k : ℕ) (d : Option Shape) → k < length slots
+    → shapes_in (take (k + 1) slots) ≡ shapes_in (take k slots) ++ shapes_in (get_or slots k d ∷ [])
 shapes-more slots k d h =
-    ap (λ (l : List Slot). shapes_in (map (λ (s : Slot). shape_in s.what) l)) (ap (λ (n : ℕ). take n slots) (add-one k) ∙ take-suc slots k d h)
-    ∙ ap shapes_in (map-append (λ (s : Slot). shape_in s.what) (take k slots) (get_or slots k d ∷ []))
-    ∙ shapes-last (map (λ (s : Slot). shape_in s.what) (take k slots)) (shape_in (get_or slots k d).what)
+    ap shapes_in (ap (λ (n : ℕ). take n slots) (add-one k) ∙ take-suc slots k d h)
+    ∙ shapes-last (take k slots) (get_or slots k d)
 
 other_default : {A : Type 0} (l : List A) (k : ℕ) (a b : A) → k < length l → get_or l k a ≡ get_or l k b
 other_default [] k a b h = absurd (omega arith)
@@ -110,21 +98,20 @@ other_default (x ∷ l) (suc k) a b h = other_default l k a b (omega arith)
 -- the candidate of a trial
 module _ (candidates : Candidates) (k : ℕ) where
   offers_long : length (offered candidates) ≡ min candidates.count (length candidates.slots)
-  offers_long = length-map (take candidates.count candidates.slots) (λ (s : Slot). shape_in s.what) ∙ length-take candidates.count candidates.slots
+  offers_long = length-take candidates.count candidates.slots
 
-  pub offered-at : (d : Slot) → k < candidates.count → candidates.count ≤ length candidates.slots → get_or (offered candidates) k none ≡ shape_in (get_or candidates.slots k d).what
+  pub offered-at : (d : Option Shape) → k < candidates.count → candidates.count ≤ length candidates.slots → get_or (offered candidates) k None ≡ get_or candidates.slots k d
   offered-at d h l =
-      other_default (offered candidates) k none (shape_in d.what) (omega (arith, offers_long))
-      ∙ get_or-map (λ (s : Slot). shape_in s.what) (take candidates.count candidates.slots) k d
-      ∙ ap (λ (s : Slot). shape_in s.what) (get_or-take candidates.count candidates.slots k d h)
+      other_default (offered candidates) k None d (omega (arith, offers_long))
+      ∙ get_or-take candidates.count candidates.slots k d h
 
-  pub offered_past : candidates.count ≤ k → get_or (offered candidates) k none ≡ none
-  offered_past h = get_or-eq_default (offered candidates) none (omega (arith, offers_long))
+  pub offered_past : candidates.count ≤ k → get_or (offered candidates) k None ≡ None
+  offered_past h = get_or-eq_default (offered candidates) None (omega (arith, offers_long))
 
-pub fits-offered : (l : List (Option Shape)) (k : ℕ) (x : Shape) → T (every fits (shapes_in l)) → get_or l k none ≡ some x → T (fits x)
+pub fits-offered : (l : List (Option Shape)) (k : ℕ) (x : Shape) → T (every fits (shapes_in l)) → get_or l k None ≡ Some x → T (fits x)
 unfolding every
 fits-offered [] k x h e = let z : ◌≡◌ {A = ℕ} 0 1 = cc in absurd (omega arith)
-fits-offered (none ∷ l) zero x h e = let z : ◌≡◌ {A = ℕ} 0 1 = cc in absurd (omega arith)
-fits-offered (none ∷ l) (suc k) x h e = fits-offered l k x h e
-fits-offered (some s ∷ l) zero x h e = subst (λ (y : Shape). T (fits y)) (some-injective s x e) (and_l (fits s) (every fits (shapes_in l)) h)
-fits-offered (some s ∷ l) (suc k) x h e = fits-offered l k x (and_r (fits s) (every fits (shapes_in l)) h) e
+fits-offered (None ∷ l) zero x h e = let z : ◌≡◌ {A = ℕ} 0 1 = cc in absurd (omega arith)
+fits-offered (None ∷ l) (suc k) x h e = fits-offered l k x h e
+fits-offered (Some s ∷ l) zero x h e = subst (λ (y : Shape). T (fits y)) (same_Some s x e) (and_l (fits s) (every fits (shapes_in l)) h)
+fits-offered (Some s ∷ l) (suc k) x h e = fits-offered l k x (and_r (fits s) (every fits (shapes_in l)) h) e

@@ -1,15 +1,13 @@
 -- Rules: document 01's ranges of a shape's numbers, and whether all shapes of a list keep them.
-use Rattle.std.specs.Prelude.{◌≡◌, Bool, not, ◌&&◌, List, [], ◌∷◌}
-use Rattle.std.proofs.Math.Option.{Option, none, some}
+use Rattle.std.specs.Prelude.{◌≡◌, Bool, not, ◌&&◌, List, [], ◌∷◌, Option, None, Some}
 use Rattle.laws.specs.Every.{every}
 use Rattle.float.specs.Within.{within}
 use Rattle.cover.specs.Cover.{bad_places}
 use Rattle.picture.specs.Pixels.{bad_colour}
 use Rattle.shapes.specs.declared.Shape.{Shape}
 use Rattle.shapes.specs.declared.Shapes.{Shapes}
-use Rattle.shapes.specs.declared.Candidate.{Candidate}
 use Rattle.shapes.specs.declared.Ranges.{Ranges}
-use Rattle.shapes.specs.Lists.{listed, shape_in}
+use Rattle.shapes.specs.Lists.{listed}
 
 abbrev pub places_fit : Shape → Bool
 places_fit s = not (bad_places s.kind)
@@ -34,11 +32,11 @@ both a b = record { places = a.places && b.places; opacities = a.opacities && b.
 -- the shapes among candidates; an entry that is nothing is never looked at
 abbrev pub shapes_in : List (Option Shape) → List Shape
 shapes_in [] = []
-shapes_in (none ∷ r) = shapes_in r
-shapes_in (some s ∷ r) = s ∷ shapes_in r
+shapes_in (None ∷ r) = shapes_in r
+shapes_in (Some s ∷ r) = s ∷ shapes_in r
 
-abbrev pub LookAtSays : Ranges → Candidate → Ranges → Type 0
-LookAtSays r what q = q ≡ both r (ranges_of (shapes_in (shape_in what ∷ [])))
+abbrev pub LookAtSays : Ranges → Option Shape → Ranges → Type 0
+LookAtSays r what q = q ≡ both r (ranges_of (shapes_in (what ∷ [])))
 
 abbrev pub LookThroughSays : Shapes → Ranges → Type 0
 LookThroughSays s r = r ≡ ranges_of (listed s)

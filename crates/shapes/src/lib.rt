@@ -24,23 +24,11 @@ pub struct Shapes {
     pub count: usize,
 }
 
-// What a trial is offered.
-#[derive(Clone, Copy)]
-pub enum Candidate {
-    Nothing,
-    Some(Shape),
-}
-
-#[derive(Clone, Copy)]
-pub struct Slot {
-    pub what: Candidate,
-}
-
-// The candidates of the trials: the first `count` of the slots. A large list: it stays in the function that has it, which
-// hands on one candidate at a time.
+// What the trials are offered, a shape or nothing: the first `count` of the slots. A large list: it stays in the function that has it,
+// which hands on one candidate at a time.
 #[derive(Clone, Copy)]
 pub struct Candidates {
-    pub slots: [Slot; 1024],
+    pub slots: [Option<Shape>; 1024],
     pub count: usize,
 }
 
@@ -60,13 +48,8 @@ pub fn exchange(mut s: Shapes, j: usize, x: Shape) -> Shapes
     ensures { ExchangeSays s j x result }
 {
     let count = s.count;
-    let mut i = j + 1;
-    while i < count {
-        let y = s.items[i];
-        s.items[i - 1] = y;
-        i += 1;
-    }
-    s.items[i - 1] = x;
+    s.items.copy_within(j + 1..count, j);
+    s.items[count - 1] = x;
     s
 }
 
@@ -85,12 +68,12 @@ fn look(r: Ranges, s: Shape) -> Ranges
 }
 
 // A candidate, if it is a shape.
-pub fn look_at(r: Ranges, what: Candidate) -> Ranges
+pub fn look_at(r: Ranges, what: Option<Shape>) -> Ranges
     ensures { LookAtSays r what result }
 {
     match what {
-        Candidate::Nothing => r,
-        Candidate::Some(s) => look(r, s),
+        None => r,
+        Some(s) => look(r, s),
     }
 }
 
@@ -98,17 +81,14 @@ pub fn look_at(r: Ranges, what: Candidate) -> Ranges
 pub fn look_through(s: Shapes) -> Ranges
     ensures { LookThroughSays s result }
 {
-    let n = whole::min_usize(s.count, 64);
+    let n = s.count.min(64);
     let mut r = Ranges {
         places: true,
         opacities: true,
         colours: true,
     };
-    let mut i = 0;
-    while i < n {
-        let x = s.items[i];
-        r = look(r, x);
-        i += 1;
+    for x in &s.items[..n] {
+        r = look(r, *x);
     }
     r
 }

@@ -1,6 +1,5 @@
 -- Rules: document 01, "Refinement": trials, passes, the list and the counts, over any shapes, pictures, drawing and total.
-use Rattle.std.specs.Prelude.{Bool, false, ◌||◌, cond, List, [], ◌∷◌, ◌++◌, ℕ, zero, suc, ◌+◌, eqb, ltb, length, Float}
-use Rattle.std.proofs.Math.Option.{Option, none, some}
+use Rattle.std.specs.Prelude.{Bool, false, ◌||◌, cond, List, [], ◌∷◌, ◌++◌, ℕ, zero, suc, ◌+◌, eqb, ltb, length, Float, Option, None, Some}
 use Rattle.std.specs.Float.{binary64}
 use Rattle.std.specs.Float.Ieee.{round, add, lt}
 use Rattle.laws.specs.Without.{without}
@@ -44,8 +43,8 @@ pub record Trial (S : Type 0) : Type 0 where
 -- a trial of shape j. Old: the total of the whole list drawn. New: that of the picture without shape j, the candidate painted on top;
 -- without a candidate nothing is drawn anew, and new is old
 unfoldable pub trial : {S P : Type 0} → Scene S P → List S → ℕ → Option S → Trial S
-trial g l j none = record { old = g.total (drawn g l); new = g.total (drawn g l); outcome = no_candidate }
-trial g l j (some s) =
+trial g l j None = record { old = g.total (drawn g l); new = g.total (drawn g l); outcome = no_candidate }
+trial g l j (Some s) =
     let old = g.total (drawn g l) in
     let new = g.total (g.paint s (drawn g (without j l))) in
     record { old = old; new = new; outcome = cond (lower new old) (accepted s) not_lower }

@@ -1,10 +1,9 @@
 -- Laws: the list during a pass is a zipper; a trial from a picture of the shapes before j, and the totals that need no drawing. Over any shapes, pictures, drawing and total.
-use Rattle.std.specs.Prelude.{◌≡◌, Bool, ◌||◌, eqb, Float, length, take, drop, get_or}
+use Rattle.std.specs.Prelude.{◌≡◌, Bool, ◌||◌, eqb, Float, length, take, drop, get_or, Option, None, Some}
 use Rattle.std.proofs.Math.Path.{refl, sym, ap, subst}
 use Rattle.std.proofs.Common.{◌∙◌, eq-eqb, ne_eqb, lt-ltb, le-ltb, length-drop, take-append-drop, length-take-le}
 use Rattle.std.proofs.Math.Bool.{true, false, cond}
 use mathlib.Core.List.{List, [], ◌∷◌, ◌++◌, append_assoc, append-nil}
-use Rattle.std.proofs.Math.Option.{Option, none, some}
 use Prim.Native.Nat.{ℕ, zero, suc, ◌+◌, ◌≤◌, ◌<◌}
 use native.Mathlib.Omega.{arith}
 use Rattle.std.proofs.Math.Dec.{ltb}
@@ -171,11 +170,11 @@ module _ {S P : Type 0} (g : Scene S P) where
 
 -- ---- a trial from its two totals
 module _ {S P : Type 0} (g : Scene S P) (a : Progress S) where
-  pub next-none : g.candidate a.trials ≡ none → next g a ≡ after no_candidate a
+  pub next-none : g.candidate a.trials ≡ None → next g a ≡ after no_candidate a
   unfolding next trial
   next-none e = ap (λ (o : Option S). after (trial g a.list a.place o).outcome a) e
 
-  module _ (s : S) (old new : Float) (c : g.candidate a.trials ≡ some s) (o : old ≡ g.total (drawn g a.list)) (n : new ≡ g.total (g.paint s (drawn g (without a.place a.list)))) where
+  module _ (s : S) (old new : Float) (c : g.candidate a.trials ≡ Some s) (o : old ≡ g.total (drawn g a.list)) (n : new ≡ g.total (g.paint s (drawn g (without a.place a.list)))) where
     judged : (b : Bool) → lower new old ≡ b → next g a ≡ after (cond b (accepted s) not_lower) a
     unfolding next trial
     judged b l =

@@ -1,6 +1,5 @@
 -- Rules: the pictures of refinement: shapes are painted as they stand over a background of one colour, and totals are those against the target.
-use Rattle.std.specs.Prelude.{List, ℕ, Float, get_or}
-use Rattle.std.proofs.Math.Option.{Option, none}
+use Rattle.std.specs.Prelude.{List, ℕ, Float, get_or, Option, None}
 use Rattle.picture.specs.Painting.{painted}
 use Rattle.tally.specs.Tally.{total_of}
 use Rattle.picture.specs.Pixels.{filled}
@@ -20,4 +19,4 @@ scene_with w h target background candidate =
 -- trial k takes candidate k; past the end, nothing
 abbrev pub scene_of : ℕ → ℕ → Float → Float → Float → List Float → Candidates → Scene Shape (List Float)
 scene_of w h red green blue target candidates =
-    scene_with w h target (filled w h red green blue) (λ k. get_or (offered candidates) k none)
+    scene_with w h target (filled w h red green blue) (λ k. get_or (offered candidates) k None)

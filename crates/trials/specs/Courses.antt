@@ -1,6 +1,5 @@
 -- Rules: the forms in which a trial is proved: what the program holds in its course, as the rule has it. The answer's promise does not rest on them.
-use Rattle.std.specs.Prelude.{◌≡◌, true, List, ℕ, ◌+◌, ◌*◌, ◌≤◌, ◌<◌, T, Float, length, take, get_or}
-use Rattle.std.proofs.Math.Option.{Option, none, some}
+use Rattle.std.specs.Prelude.{◌≡◌, true, List, ℕ, ◌+◌, ◌*◌, ◌≤◌, ◌<◌, T, Float, length, take, get_or, Option, None, Some}
 use Rattle.std.specs.Float.{nan}
 use Rattle.laws.specs.Every.{every}
 use Rattle.float.specs.Within.{nought, all_within}
@@ -10,8 +9,7 @@ use Rattle.tally.specs.Tally.{total_of}
 use Rattle.tally.specs.Rows.{total_on}
 use Rattle.shapes.specs.declared.Shape.{Shape}
 use Rattle.shapes.specs.declared.Shapes.{Shapes}
-use Rattle.shapes.specs.declared.Candidate.{Candidate}
-use Rattle.shapes.specs.Lists.{listed, shape_in}
+use Rattle.shapes.specs.Lists.{listed}
 use Rattle.shapes.specs.Ranges.{fits}
 use Rattle.trials.specs.declared.Course.{Course}
 use Rattle.traces.specs.Refinement.{Scene, Progress, painted_on, drawn, lower, next}
@@ -101,8 +99,8 @@ pub record Stepped (g : Scene Shape (List Float)) (size : ℕ) (q : List Shape �
 
 -- a candidate that is a shape fits
 abbrev pub CandidateFits : Option Shape → Type 0
-CandidateFits none = Unit {0}
-CandidateFits (some x) = T (fits x)
+CandidateFits None = Unit {0}
+CandidateFits (Some x) = T (fits x)
 
 -- what a trial rests on
 pub record Ready (w h : ℕ) (target : List Float) (c : Course) (what : Option Shape) (first second sums : List Float) (runs : List ℕ) (paints : List Float) : Type 0 where
@@ -121,8 +119,8 @@ pub record Ready (w h : ℕ) (target : List Float) (c : Course) (what : Option S
   pub traced : Traced w h (listed c.list) runs paints
 
 -- what a trial promises: over any background and any candidates of the other trials, if the course was held to the rule, it still is after the rule's next trial
-abbrev pub StepSays : ℕ → ℕ → List Float → Course → Candidate → List Float → Aids → Course → List Float → Aids → Type 0
+abbrev pub StepSays : ℕ → ℕ → List Float → Course → Option Shape → List Float → Aids → Course → List Float → Aids → Type 0
 StepSays w h target c what first aids r first' aids' =
-    (b : List Float) (f : ℕ → Option Shape) → f c.trials ≡ shape_in what
+    (b : List Float) (f : ℕ → Option Shape) → f c.trials ≡ what
     → Held (scene_with w h target b f) (h * w * 3) (Aided w h target b) c first aids
     → Stepped (scene_with w h target b f) (h * w * 3) (Aided w h target b) c r first' aids'

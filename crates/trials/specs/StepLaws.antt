@@ -1,9 +1,8 @@
 -- Laws: each way through a trial keeps to the rule, and only one course is the rule's next.
-use Rattle.std.specs.Prelude.{◌≡◌, refl, Bool, true, false, ◌&&◌, ℕ, suc, ◌+◌, ◌*◌, ◌≤◌, ◌<◌, Float, take, drop}
+use Rattle.std.specs.Prelude.{◌≡◌, refl, Bool, true, false, ◌&&◌, ℕ, suc, ◌+◌, ◌*◌, ◌≤◌, ◌<◌, Float, take, drop, Option, None, Some}
 use Rattle.std.proofs.Math.Path.{sym, ap, subst}
 use Rattle.std.proofs.Common.{◌∙◌, arith, length-take-le}
 use mathlib.Core.List.{List, [], ◌∷◌, ◌++◌}
-use Rattle.std.proofs.Math.Option.{Option, none, some}
 use Rattle.std.proofs.Math.Dec.{T}
 use Rattle.std.specs.Float.Ieee.Fits.{and_i}
 use Rattle.std.proofs.Math.ListN.{length}
@@ -15,8 +14,7 @@ use Rattle.laws.specs.WithoutLaws.{length_without, take-without}
 use Rattle.float.specs.Within.{all_within}
 use Rattle.shapes.specs.declared.Shape.{Shape}
 use Rattle.shapes.specs.declared.Shapes.{Shapes}
-use Rattle.shapes.specs.declared.Candidate.{Candidate}
-use Rattle.shapes.specs.Lists.{listed, shape_in, ExchangeSays}
+use Rattle.shapes.specs.Lists.{listed, ExchangeSays}
 use Rattle.shapes.specs.Ranges.{fits}
 use Rattle.traces.specs.Refinement.{Scene, Progress, drawn, lower, after}
 use Rattle.traces.specs.Scenes.{scene_with}
@@ -41,7 +39,7 @@ module _ (g : Scene Shape (List Float)) (size : ℕ) (q : List Shape → Aids �
   -- ---- one trial
   module _ (c : Course) (first : List Float) (aids : Aids) (d : Held g size q c first aids) where
     -- without a candidate
-    pub stepped_none : g.candidate c.trials ≡ none → Stepped g size q c (risen c c.made) first aids
+    pub stepped_none : g.candidate c.trials ≡ None → Stepped g size q c (risen c c.made) first aids
     unfolding after
     stepped_none e = record {
       held = record {
@@ -61,7 +59,7 @@ module _ (g : Scene Shape (List Float)) (size : ℕ) (q : List Shape → Aids �
       at = sym (next-none g (progress_of c) e);
     }
 
-    module _ (x : Shape) (new : Float) (first' : List Float) (aids' : Aids) (o : g.candidate c.trials ≡ some x)
+    module _ (x : Shape) (new : Float) (first' : List Float) (aids' : Aids) (o : g.candidate c.trials ≡ Some x)
         (e : new ≡ g.total (g.paint x (drawn g (without c.place (listed c.list))))) (f : first' ≡ drawn g (take c.place (listed c.list)))
         (first-size : length first' ≡ size) (inside : T (all_within first')) where
       -- a candidate that is not lower by enough
@@ -120,7 +118,7 @@ module _ (g : Scene Shape (List Float)) (size : ℕ) (q : List Shape → Aids �
           }
 
 -- where the course was held to the rule: how far it has come, and the list's total. How much of the list the first picture has may differ
-pub StepSays-unique : (w h : ℕ) (target : List Float) (c : Course) (what : Candidate) (first : List Float) (aids : Aids) (b : List Float) (f : ℕ → Option Shape) → f c.trials ≡ shape_in what
+pub StepSays-unique : (w h : ℕ) (target : List Float) (c : Course) (what : Option Shape) (first : List Float) (aids : Aids) (b : List Float) (f : ℕ → Option Shape) → f c.trials ≡ what
     → Held (scene_with w h target b f) (h * w * 3) (Aided w h target b) c first aids
     → (r s : Course) (first₁ first₂ : List Float) (aids₁ aids₂ : Aids) → StepSays w h target c what first aids r first₁ aids₁ → StepSays w h target c what first aids s first₂ aids₂
     → (progress_of r ≡ progress_of s) × (r.old ≡ s.old)

@@ -9,7 +9,7 @@ ghost use Rattle.refusal.specs.Refusals.{Sized};
 ghost use Rattle.cover.specs.ReachRows.{reach_rows};
 ghost use Rattle.tally.specs.Rows.{total_on};
 ghost use Rattle.shapes.specs.declared.Shape.{Shape};
-ghost use Rattle.shapes.specs.Lists.{listed, shape_in};
+ghost use Rattle.shapes.specs.Lists.{listed};
 ghost use Rattle.shapes.specs.Ranges.{fits};
 ghost use Rattle.traces.specs.Refinement.{painted_on};
 ghost use Rattle.traces.specs.Scenes.{shape_painted};
@@ -17,7 +17,7 @@ ghost use Rattle.traces.specs.Traces.{Drawable, Traced, Tabled};
 ghost use Rattle.trials.specs.Courses.{Targeted, SummedTo, Spanned, Apart, Judged, risen, taken, aids_of, Ready, StepSays};
 
 use cover::reached::Rows;
-use shapes::{Candidate, Shape, Shapes};
+use shapes::{Shape, Shapes};
 
 // How far refinement has come: the list, the place j of the next trial and the three counts of the answer; how many shapes the
 // first work picture has, and the total of the whole list.
@@ -229,19 +229,19 @@ pub fn step(
     h: usize,
     target: &[f32],
     c: Course,
-    what: Candidate,
+    what: Option<Shape>,
     first: &mut [f32],
     second: &mut [f32],
     sums: &mut [f64; 257],
     runs: &mut [u16; 33280],
     paints: &mut [f32; 260],
 ) -> Course
-    requires { Ready w h target.now c (shape_in what) first.old second.old sums.old runs.old paints.old }
+    requires { Ready w h target.now c what first.old second.old sums.old runs.old paints.old }
     ensures { StepSays w h target.now c what first.old (aids_of second.old sums.old runs.old paints.old) result first.new (aids_of second.new sums.new runs.new paints.new) }
 {
     match what {
-        Candidate::Nothing => rise(c, c.made),
-        Candidate::Some(x) => {
+        None => rise(c, c.made),
+        Some(x) => {
             let list = c.list;
             let j = c.place;
             let mut trial = [0.0f64; 257];

@@ -1,7 +1,7 @@
+use Rattle.std.specs.Prelude.{Option}
 use mathlib.Core.Path.{◌≡◌, refl, sym, ap, subst, ◌∙◌}
 use mathlib.Core.Bool.{true, false}
 use mathlib.Core.List.{List, [], ◌∷◌, ◌++◌}
-use mathlib.Core.Option.{Option}
 use Prim.Native.Nat.{ℕ, ◌+◌, ◌*◌, ◌<◌}
 use lib.Dec.{T}
 use lib.Ieee.{Float, nan, round, of_bits}
@@ -10,8 +10,7 @@ use lib.Seq.{take_at}
 use Rattle.laws.specs.Without.{without}
 use Rattle.float.specs.Within.{nought}
 use Rattle.shapes.specs.declared.Shape.{Shape}
-use Rattle.shapes.specs.declared.Candidate.{Candidate}
-use Rattle.shapes.specs.Lists.{listed, shape_in}
+use Rattle.shapes.specs.Lists.{listed}
 use Rattle.shapes.specs.Ranges.{fits}
 use Rattle.trials.specs.declared.Course.{Course}
 use Rattle.traces.specs.Refinement.{Scene, drawn, lower}
@@ -34,7 +33,7 @@ rise-requires c = let r = c.requires in (omega (arith, r.place, r.list.few), r.f
 
 -- the candidate fits
 chosen : (c : In-Some) → T (fits c.in-Some.x)
-chosen c = subst (λ (w : Candidate). CandidateFits (shape_in w)) c.in-Some.is c.requires.candidate
+chosen c = subst CandidateFits c.in-Some.is c.requires.candidate
 
 pub try_candidate-new-requires : goal.try_candidate-new-requires
 try_candidate-new-requires c = let r = c.requires in record { drawable = (r.list, r.behind, r.place, chosen (goal.at.try_candidate-new-requires c).In-Some, r.traced, length-replicate 257 nought); targeted = (r.aim, r.first_long, r.second_long, r.inside, r.second-inside) }
@@ -71,11 +70,11 @@ aidsAt s = aids_of s.args.second.now s.args.sums.now s.args.runs.now s.args.pain
 abbrev HeldAt : Start → List Float → (ℕ → Option Shape) → Type 0
 HeldAt s b f = Held (scene_at s b f) (size_at s) (served_at s b) s.args.c s.args.first.now (aidsAt s)
 
-pub returns-in-Nothing : goal.returns-in-Nothing
-returns-in-Nothing c b f e d =
+pub returns-in-None : goal.returns-in-None
+returns-in-None c b f e d =
     let a = c.args in
-    subst (λ (r : Course). Stepped (scene_at (goal.at.returns-in-Nothing c).Start b f) (size_at (goal.at.returns-in-Nothing c).Start) (served_at (goal.at.returns-in-Nothing c).Start b) a.c r a.first.now (aidsAt (goal.at.returns-in-Nothing c).Start)) (sym c.rise.ensures)
-    (stepped_none (scene_at (goal.at.returns-in-Nothing c).Start b f) (size_at (goal.at.returns-in-Nothing c).Start) (served_at (goal.at.returns-in-Nothing c).Start b) a.c a.first.now (aidsAt (goal.at.returns-in-Nothing c).Start) d (e ∙ ap shape_in c.in-Nothing.is))
+    subst (λ (r : Course). Stepped (scene_at (goal.at.returns-in-None c).Start b f) (size_at (goal.at.returns-in-None c).Start) (served_at (goal.at.returns-in-None c).Start b) a.c r a.first.now (aidsAt (goal.at.returns-in-None c).Start)) (sym c.rise.ensures)
+    (stepped_none (scene_at (goal.at.returns-in-None c).Start b f) (size_at (goal.at.returns-in-None c).Start) (served_at (goal.at.returns-in-None c).Start b) a.c a.first.now (aidsAt (goal.at.returns-in-None c).Start) d (e ∙ c.in-None.is))
 
 -- what the trial leaves
 abbrev first_at : After-try_candidate-new → List Float
@@ -168,7 +167,7 @@ returns-then-new-c c b f e d =
     let below : a.c.place < length (listAt (goal.at.returns-then-new-c c).After-try_candidate-new) = omega (arith, s.requires.place, count-is (goal.at.returns-then-new-c c).After-try_candidate-new b f d) in
     subst (λ (r : Course). Stepped (scene_at s b f) (size_at s) (served_at s b) a.c r (first_at (goal.at.returns-then-new-c c).After-try_candidate-new) aids) (sym c.accept.ensures)
     (stepped_taken (scene_at s b f) (size_at s) (served_at s b) a.c a.first.now (aidsAt s) d (shape_at (goal.at.returns-then-new-c c).After-try_candidate-new) c.try_candidate-new.result
-    (first_at (goal.at.returns-then-new-c c).After-try_candidate-new) aids (e ∙ ap shape_in c.in-Some.is) (new-total (goal.at.returns-then-new-c c).After-try_candidate-new b f d low) (drawn-before (goal.at.returns-then-new-c c).After-try_candidate-new b f d)
+    (first_at (goal.at.returns-then-new-c c).After-try_candidate-new) aids (e ∙ c.in-Some.is) (new-total (goal.at.returns-then-new-c c).After-try_candidate-new b f d low) (drawn-before (goal.at.returns-then-new-c c).After-try_candidate-new b f d)
     (c.try_candidate-new.auto.first ∙ s.requires.first_long) c.try_candidate-new.ensures.1
     x.result
     (record {
@@ -192,7 +191,7 @@ returns-else-new-c c b f e d =
     let aids = aids_of (secondAt (goal.at.returns-else-new-c c).After-try_candidate-new) a.sums.now (runsAt (goal.at.returns-else-new-c c).After-try_candidate-new) (paintsAt (goal.at.returns-else-new-c c).After-try_candidate-new) in
     subst (λ (r : Course). Stepped (scene_at s b f) (size_at s) (served_at s b) a.c r (first_at (goal.at.returns-else-new-c c).After-try_candidate-new) aids) (sym c.rise-else-new-c.ensures)
     (stepped_kept (scene_at s b f) (size_at s) (served_at s b) a.c a.first.now (aidsAt s) d (shape_at (goal.at.returns-else-new-c c).After-try_candidate-new) ((scene_at s b f).total (trialAt (goal.at.returns-else-new-c c).After-try_candidate-new b f d))
-    (first_at (goal.at.returns-else-new-c c).After-try_candidate-new) aids (e ∙ ap shape_in c.in-Some.is) refl (drawn-before (goal.at.returns-else-new-c c).After-try_candidate-new b f d)
+    (first_at (goal.at.returns-else-new-c c).After-try_candidate-new) aids (e ∙ c.in-Some.is) refl (drawn-before (goal.at.returns-else-new-c c).After-try_candidate-new b f d)
     (c.try_candidate-new.auto.first ∙ s.requires.first_long) c.try_candidate-new.ensures.1
     (record {
       second_long = c.try_candidate-new.auto.second ∙ s.requires.second_long;

@@ -1,23 +1,19 @@
-use mathlib.Core.Path.{refl}
-use native.Mathlib.Omega.{arith}
+use Rattle.std.proofs.Common.{rules, tests, ◌≡◌, refl, sym, ◌∙◌, ap, ℕ, Bool, List, [], ◌∷◌, ◌&&◌}
+use Rattle.std.specs.List.{list_all}
+use Rattle.std.proofs.lemmas.Iterator.{YieldsList-from_slice}
+use Rattle.std.proofs.lemmas.Iterator.Search.{all_from_yields_List}
 use Rattle.laws.specs.Every.{every}
-use Rattle.laws.specs.EveryLaws.{every-step, every-end}
 use Rattle.crossing.specs.Crossed.{sized_or}
-use borrow.Author.Rules.{rules}
 use Rattle.crossing.proofs.lists.sizes_fit.Goals as goal
 
--- The loop carries the test of the sizes passed.
+-- What `all` tells of the sizes.
 
-pub loop-i-init : goal.loop-i-init
+same : (p : ℕ → Bool) (xs : List ℕ) → list_all p xs ≡ every p xs
 unfolding every
-loop-i-init c = (search rules, refl)
-
-pub loop-i-preserved : goal.loop-i-preserved
-loop-i-preserved c =
-    let a = c.args in
-    (search rules, every-step (sized_or a.gaps) a.sizes.now c.loop-i.i 0 c.loop-i.ok c.size_fits-ok.result c.loop-i-test.true c.loop-i.invariant.1 c.size_fits-ok.ensures)
+same p [] = refl
+same p (x ∷ xs) = ap (λ (b : Bool). p x && b) (same p xs)
 
 pub returns : goal.returns
 returns c =
-    let a = c.args in
-    every-end (sized_or a.gaps) a.sizes.now c.loop-i.i c.loop-i.ok (omega arith) c.loop-i.invariant.1
+    let xs = c.args.sizes.now in
+    all_from_yields_List (sized_or c.args.gaps) _ _ _ c.all.ensures.ran (YieldsList-from_slice xs cc) (λ x b q k. search (rules, tests)) ∙ same _ xs

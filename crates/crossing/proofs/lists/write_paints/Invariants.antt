@@ -1,4 +1,4 @@
-use Prim.Native.Nat.{ℕ, ◌-◌, ◌/◌, ◌%◌}
+use Prim.Native.Nat.{ℕ, ◌*◌, ◌/◌, ◌%◌}
 use lib.Ieee.{Float}
 use Rattle.shapes.specs.declared.Shapes.{Shapes}
 use Rattle.shapes.specs.Lists.{listed}
@@ -10,7 +10,4 @@ abbrev pub paintAt : Shapes → ℕ → Float
 paintAt list k = paint_in (entry (listed list) (k / 4)) (k % 4)
 
 abbrev pub invariant-loop-k : goal.invariant-loop-k
-invariant-loop-k l = Written (paintAt l.list) l.n l.paints l.k
-
-abbrev pub decreases-loop-k : goal.decreases-loop-k
-decreases-loop-k l = l.n - l.k
+invariant-loop-k l = Written (paintAt l.list) (l.list.count * 4) l.paints l.k

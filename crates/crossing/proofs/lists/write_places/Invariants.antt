@@ -1,4 +1,4 @@
-use Prim.Native.Nat.{ℕ, ◌-◌, ◌/◌, ◌%◌}
+use Prim.Native.Nat.{ℕ, ◌*◌, ◌/◌, ◌%◌}
 use lib.IntN.{ℤ}
 use Rattle.shapes.specs.declared.Shapes.{Shapes}
 use Rattle.shapes.specs.Lists.{listed}
@@ -10,7 +10,4 @@ abbrev pub place_at : Shapes → ℕ → ℤ
 place_at list k = place_in (entry (listed list) (k / 8)).kind (k % 8)
 
 abbrev pub invariant-loop-k : goal.invariant-loop-k
-invariant-loop-k l = Written (place_at l.list) l.n l.places l.k
-
-abbrev pub decreases-loop-k : goal.decreases-loop-k
-decreases-loop-k l = l.n - l.k
+invariant-loop-k l = Written (place_at l.list) (l.list.count * 8) l.places l.k

@@ -1,4 +1,4 @@
-use Prim.Native.Nat.{ℕ, ◌-◌}
+use Prim.Native.Nat.{ℕ}
 use lib.ListN.{length}
 use Rattle.cover.specs.Cover.{places}
 use Rattle.shapes.specs.declared.Shapes.{Shapes}
@@ -11,7 +11,4 @@ abbrev pub size_at : Shapes → ℕ → ℕ
 size_at list i = length (places (entry (listed list) i).kind)
 
 abbrev pub invariant-loop-i : goal.invariant-loop-i
-invariant-loop-i l = Written (size_at l.list) l.n l.sizes l.i
-
-abbrev pub decreases-loop-i : goal.decreases-loop-i
-decreases-loop-i l = l.n - l.i
+invariant-loop-i l = Written (size_at l.list) l.list.count l.sizes l.i

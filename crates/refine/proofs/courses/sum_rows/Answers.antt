@@ -19,7 +19,6 @@ pub loop-y-init : goal.loop-y-init
 unfolding of_bits
 loop-y-init c =
     let a = c.args in (
-      omega arith,
       length-set a.sums.now 0 nought ∙ c.requires.4,
       on_none a.target.now a.canvas.now nought 0 ∙ ap (total_on a.target.now a.canvas.now nought 0) {x = 0} {y = 0 * a.w * 3} (omega (arith, zero-mul a.w)),
       sums_none a.w a.target.now a.canvas.now (set a.sums.now 0 nought) (get_or-set_same a.sums.now 0 nought nan (omega (arith, c.requires.4))),
@@ -52,22 +51,15 @@ offset_bounds-sums-y c = omega (arith, c.loop-y-test.true, c.requires.0.h_high)
 pub bounds-sums-y : goal.bounds-sums-y
 bounds-sums-y c = omega (arith, c.loop-y-test.true, c.requires.0.h_high)
 
-pub overflow_add-y : goal.overflow_add-y
-overflow_add-y c = omega (arith, c.loop-y-test.true, c.requires.0.h_high)
-
-pub loop-y-smaller : goal.loop-y-smaller
-loop-y-smaller c = omega (arith, c.loop-y-test.true, c.requires.0.h_high)
-
 pub loop-y-preserved : goal.loop-y-preserved
 loop-y-preserved c =
     let l = c.loop-y in
     let a = c.args in
-    let v = row-sum a.w a.target.now a.canvas.now l.y l.sum c.total_on-sum.result l.invariant.2 c.total_on-sum.ensures in (
-      omega (arith, c.loop-y-test.true),
-      length-set l.sums (l.y + 1) c.total_on-sum.result ∙ l.invariant.1,
+    let v = row-sum a.w a.target.now a.canvas.now l.y l.sum c.total_on-sum.result l.invariant.1 c.total_on-sum.ensures in (
+      length-set l.sums (l.y + 1) c.total_on-sum.result ∙ l.invariant.0,
       v,
-      sums-more a.w a.target.now a.canvas.now l.sums l.y c.total_on-sum.result (omega (arith, c.loop-y-test.true, l.invariant.1, c.requires.0.h_high)) v l.invariant.3,
+      sums-more a.w a.target.now a.canvas.now l.sums l.y c.total_on-sum.result (omega (arith, c.loop-y-test.true, l.invariant.0, c.requires.0.h_high)) v l.invariant.2,
     )
 
 pub returns : goal.returns
-returns c = let l = c.loop-y in (l.invariant.1, λ y k. l.invariant.3 y (omega (arith, k, c.loop-y-test.false)))
+returns c = let l = c.loop-y in (l.invariant.0, λ y k. l.invariant.2 y (omega (arith, k, c.loop-y-test.false)))

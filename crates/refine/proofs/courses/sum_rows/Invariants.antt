@@ -1,5 +1,5 @@
 use mathlib.Core.Path.{◌≡◌}
-use Prim.Native.Nat.{◌-◌, ◌*◌, ◌≤◌}
+use Prim.Native.Nat.{◌*◌}
 use lib.ListN.{length}
 use Rattle.float.specs.Within.{nought}
 use Rattle.tally.specs.Rows.{total_on}
@@ -8,7 +8,4 @@ use Rattle.refine.proofs.courses.sum_rows.Given as goal
 
 abbrev pub invariant-loop-y : goal.invariant-loop-y
 invariant-loop-y l =
-    (l.y ≤ l.h) × (length l.sums ≡ 257) × (l.sum ≡ total_on l.target l.canvas nought 0 (l.y * l.w * 3)) × SummedTo l.w l.y l.target l.canvas l.sums
-
-abbrev pub decreases-loop-y : goal.decreases-loop-y
-decreases-loop-y l = l.h - l.y
+    (length l.sums ≡ 257) × (l.sum ≡ total_on l.target l.canvas nought 0 (l.y * l.w * 3)) × SummedTo l.w l.y l.target l.canvas l.sums

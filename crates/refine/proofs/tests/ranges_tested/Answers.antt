@@ -2,7 +2,7 @@ use mathlib.Core.Path.{sym, ap, ◌∙◌}
 use mathlib.Core.Bool.{not}
 use Rattle.refusal.specs.Refusals.{place_if, opacity_if, colour_if, pixel_if}
 use Rattle.refusal.specs.ChainLaws.{passed-by, met, none_left}
-use Rattle.refine.proofs.tests.range_refusal.Goals as goal
+use Rattle.refine.proofs.tests.ranges_tested.Goals as goal
 
 -- Each test in the order of its number.
 

@@ -2,7 +2,7 @@ use mathlib.Core.Path.{sym, ◌∙◌}
 use Rattle.refusal.specs.Refusals.{size_if, length_if, count_if}
 use Rattle.refusal.specs.RefusalLaws.{sized}
 use Rattle.refusal.specs.ChainLaws.{passed-by, met, none_left}
-use Rattle.refine.proofs.tests.size_refusal.Goals as goal
+use Rattle.refine.proofs.tests.sizes_tested.Goals as goal
 
 -- Each test in the order of its number.
 
