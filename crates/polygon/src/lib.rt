@@ -5,7 +5,7 @@
 ghost use Rattle.std.specs.Prelude.{◌≡◌, ◌<◌, ◌≤◌, ◌+◌, ◌*◌, ◌-ℤ◌, set};
 ghost use Rattle.laws.specs.Blank.{Blank};
 ghost use Rattle.refusal.specs.Refusals.{Sized};
-ghost use Rattle.polygon.specs.Polygon.{at, side, least_of, greatest_of, InRange, ExtentOfSays};
+ghost use Rattle.polygon.specs.Polygon.{at, side, InRange, ExtentOfSays};
 ghost use Rattle.polygon.specs.OneRow.{four, Done, FillQuadSays};
 ghost use Rattle.polygon.specs.Steps.{Signed, RowRun, Placed, sign_of, Edges, Room, Rows, Closed};
 
@@ -47,23 +47,21 @@ fn sign_of(area: i64) -> i32
     -1
 }
 
-// From the end of the list to its front; of no number, 0 and 0.
+// Of no number, 0 and 0.
 pub fn extent_of(zs: &[i32]) -> Extent
     ensures { ExtentOfSays zs.now result.least result.greatest }
 {
-    if zs.len() == 0 {
+    let Some((&first, rest)) = zs.split_first() else {
         return Extent {
             least: 0,
             greatest: 0,
         };
-    }
-    let mut i = zs.len() - 1;
-    let mut least = zs[i];
-    let mut greatest = least;
-    while 0 < i {
-        i -= 1;
-        least = whole::min_i32(zs[i], least);
-        greatest = whole::max_i32(zs[i], greatest);
+    };
+    let mut least = first;
+    let mut greatest = first;
+    for &z in rest {
+        least = least.min(z);
+        greatest = greatest.max(z);
     }
     Extent {
         least: least,
@@ -161,18 +159,6 @@ fn quad_rows(
     }
 }
 
-fn lowest(a: i32, b: i32, c: i32, d: i32) -> i32
-    ensures { result ≡ least_of (four a b c d) }
-{
-    whole::min_i32(a, whole::min_i32(b, whole::min_i32(c, d)))
-}
-
-fn highest(a: i32, b: i32, c: i32, d: i32) -> i32
-    ensures { result ≡ greatest_of (four a b c d) }
-{
-    whole::max_i32(a, whole::max_i32(b, whole::max_i32(c, d)))
-}
-
 // Writes the runs of the rows that four corners reach; the others have no column, and stay 0, 0. A triangle has its last corner twice:
 // from a corner to itself there is no edge.
 pub fn fill_quad(
@@ -197,8 +183,9 @@ pub fn fill_quad(
     if turn == 0 {
         return;
     }
-    let first = whole::clamp_i64(lowest(y0, y1, y2, y3) as i64, h);
-    let past = whole::clamp_i64(highest(y0, y1, y2, y3) as i64 + 1, h);
+    let rows = extent_of(&[y0, y1, y2, y3]);
+    let first = whole::clamp_i64(rows.least as i64, h);
+    let past = whole::clamp_i64(rows.greatest as i64 + 1, h);
     let sign = sign_of(turn);
     let e0 = edge_of(x0, y0, x1, y1, sign);
     let e1 = edge_of(x1, y1, x2, y2, sign);

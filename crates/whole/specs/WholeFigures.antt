@@ -1,5 +1,5 @@
 -- Laws: document 01's figures of the two divisions, as one statement over a list.
-use Rattle.std.specs.Prelude.{◌≡◌, refl, List, [], ◌∷◌, ℕ, T, ltb, ℤ, pos, negsuc, nat_abs}
+use Rattle.std.specs.Prelude.{◌≡◌, refl, List, [], ◌∷◌, T, ltb, ℤ, pos, negsuc, nat_abs}
 use Rattle.std.proofs.Common.{◌∙◌, ap, arith, ltb→lt}
 use Rattle.laws.specs.Quotient.{floor_z, ceil_z}
 use Rattle.whole.specs.Whole.{Overflows, DivFloorI64Says, DivCeilI64Says}

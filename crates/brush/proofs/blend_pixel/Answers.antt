@@ -1,5 +1,4 @@
 use Rattle.brush.specs.BrushLaws.{pixel}
-use borrow.Author.Rules.{rules}
 use Rattle.brush.proofs.blend_pixel.Goals as goal
 
 -- Three numbers are read and mixed, then stored.

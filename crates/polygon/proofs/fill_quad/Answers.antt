@@ -19,7 +19,7 @@ use Rattle.polygon.specs.OneRow.{four}
 use Rattle.polygon.specs.StepLaws.{sign_bounded, least_bounded, greatest_bounded, corner_placed}
 use Rattle.polygon.specs.FillLaws.{some_area, no_area_none, blank_room, fill_done}
 use Rattle.polygon.proofs.fill_quad.Goals as goal
-use Rattle.polygon.proofs.fill_quad.Goals.{After-clamp_i64-past, After-edge_of-e3, After-highest, After-lowest, After-side-turn, After-sign_of-sign, Start}
+use Rattle.polygon.proofs.fill_quad.Goals.{After-clamp_i64-past, After-edge_of-e3, After-extent_of-rows, After-side-turn, After-sign_of-sign, Start}
 
 -- `polygon::fill_quad` meets its contract: the rows of the box are their runs; the box shows that the rows outside it are empty.
 
@@ -43,47 +43,46 @@ returns-then-turn-eq0 c =
     c.requires.blank ∙ no_area_none (xs (goal.at.returns-then-turn-eq0 c).Start) (ys (goal.at.returns-then-turn-eq0 c).Start) c.args.w c.args.h (sym (told (goal.at.returns-then-turn-eq0 c).After-side-turn) ∙ bits_zero {w = w64} (sfits_of c.side-turn.type_inv) c.if-turn-eq0.true)
 
 -- the two rows, as they are read
-module _ (c : After-lowest) where
+module _ (c : After-extent_of-rows) where
   abbrev from : Start
-  from = c.before.before.before
+  from = c.before.before.before.before
 
-  low-is : c.lowest.result ≡ least_of (ys from)
-  low-is = let s = from in simp (to_z-of_z, s.ranges.y0, s.ranges.y1, s.ranges.y2, s.ranges.y3) at c.lowest.ensures
+  low-is : c.extent_of-rows.result.least ≡ least_of (ys from)
+  low-is = let s = from in simp (to_z-of_z, s.ranges.y0, s.ranges.y1, s.ranges.y2, s.ranges.y3) at c.extent_of-rows.ensures.low
 
-  low_read : Is (to_z w32 (of_z w32 c.lowest.result)) (least_of (ys from)) 8191
+  low_read : Is (to_z w32 (of_z w32 c.extent_of-rows.result.least)) (least_of (ys from)) 8191
   low_read = let b = least_bounded (ys from) from.requires.corners.y in ldr {w = w32} (wfits tt (weq low-is b)) low-is b
 
-pub overflow_cast-lowest : goal.overflow_cast-lowest
-overflow_cast-lowest c = fits_as tt (low_read (goal.at.overflow_cast-lowest c).After-lowest)
+  high_is : c.extent_of-rows.result.greatest ≡ greatest_of (ys from)
+  high_is = let s = from in simp (to_z-of_z, s.ranges.y0, s.ranges.y1, s.ranges.y2, s.ranges.y3) at c.extent_of-rows.ensures.high
 
-module _ (c : After-highest) where
-  abbrev begin : Start
-  begin = from c.before.before
+  high_read : Is (to_z w32 (of_z w32 c.extent_of-rows.result.greatest)) (greatest_of (ys from)) 8191
+  high_read = let b = greatest_bounded (ys from) from.requires.corners.y in ldr {w = w32} (wfits tt (weq high_is b)) high_is b
 
-  high_is : c.highest.result ≡ greatest_of (ys begin)
-  high_is = let s = begin in simp (to_z-of_z, s.ranges.y0, s.ranges.y1, s.ranges.y2, s.ranges.y3) at c.highest.ensures
+pub overflow_cast-rows : goal.overflow_cast-rows
+overflow_cast-rows c = fits_as tt (low_read (goal.at.overflow_cast-rows c).After-extent_of-rows)
 
-  high_read : Is (to_z w32 (of_z w32 c.highest.result)) (greatest_of (ys begin)) 8191
-  high_read = let b = greatest_bounded (ys begin) begin.requires.corners.y in ldr {w = w32} (wfits tt (weq high_is b)) high_is b
+pub overflow_cast-rows-2 : goal.overflow_cast-rows-2
+overflow_cast-rows-2 c = fits_as tt (high_read (goal.at.overflow_cast-rows-2 c).After-extent_of-rows)
 
-pub overflow_cast-highest : goal.overflow_cast-highest
-overflow_cast-highest c = fits_as tt (high_read (goal.at.overflow_cast-highest c).After-highest)
-
-pub overflow_add-highest : goal.overflow_add-highest
-overflow_add-highest c = fits+ tt (cast w64 tt (high_read (goal.at.overflow_add-highest c).After-highest)) (lit _)
+pub overflow_add-rows : goal.overflow_add-rows
+overflow_add-rows c = fits+ tt (cast w64 tt (high_read (goal.at.overflow_add-rows c).After-extent_of-rows)) (lit _)
 
 -- ---- what is known before the rows
 module _ (d : After-clamp_i64-past) where
+  abbrev reached : After-extent_of-rows
+  reached = d.before.before.before.before.before.before
+
   abbrev start : Start
-  start = begin d.before
+  start = from reached
 
   first-is : ClampI64Says (least_of (ys start)) start.args.h d.clamp_i64-first.result
   first-is =
-      subst (λ (z : ℤ). ClampI64Says z start.args.h d.clamp_i64-first.result) (cast w64 tt (low_read d.before.before.before)).is d.clamp_i64-first.ensures
+      subst (λ (z : ℤ). ClampI64Says z start.args.h d.clamp_i64-first.result) (cast w64 tt (low_read reached)).is d.clamp_i64-first.ensures
 
   past_is : ClampI64Says (greatest_of (ys start) +ℤ pos 1) start.args.h d.clamp_i64-past.result
   past_is =
-      subst (λ (z : ℤ). ClampI64Says z start.args.h d.clamp_i64-past.result) (is+ w64 tt (cast w64 tt (high_read d.before)) (lit (pos 1))).is d.clamp_i64-past.ensures
+      subst (λ (z : ℤ). ClampI64Says z start.args.h d.clamp_i64-past.result) (is+ w64 tt (cast w64 tt (high_read reached)) (lit (pos 1))).is d.clamp_i64-past.ensures
 
   past-most : d.clamp_i64-past.result ≤ 256
   past-most = omega (arith, (clamp_is (greatest_of (ys start) +ℤ pos 1) start.args.h d.clamp_i64-past.result past_is).0, start.requires.size.h_high)
@@ -91,9 +90,9 @@ module _ (d : After-clamp_i64-past) where
 -- ---- the sign
 signed : (c : After-sign_of-sign) → let s = start c.before in Signed (xs s) (ys s) (to_z w32 (of_z w32 c.sign_of-sign.result))
 signed c =
-    let area-is = read w64 c.side-turn.result c.side-turn.type_inv ∙ told c.before.before.before.before.before.before in
+    let area-is = read w64 c.side-turn.result c.side-turn.type_inv ∙ told (reached c.before).before.before.before in
     let apart : of_z w64 c.side-turn.result ≡ 0 → ⊥ = λ e. omega arith in record {
-      some = some_area _ (λ z. bits_nonzero w64 apart (told c.before.before.before.before.before.before ∙ z));
+      some = some_area _ (λ z. bits_nonzero w64 apart (told (reached c.before).before.before.before ∙ z));
       is = read w32 c.sign_of-sign.result c.sign_of-sign.type_inv ∙ c.sign_of-sign.ensures ∙ ap sign_of area-is;
     }
 

@@ -76,11 +76,11 @@ overflow_cast-column-4 c = record { fits = omega (arith, few (goal.at.overflow_c
 pub returns-then-e : goal.returns-then-e
 returns-then-e c =
     let s = start (goal.at.returns-then-e c).After-brought-number in
-    rw (c.larger.ensures, column-is (goal.at.returns-then-e c).After-brought-number)
+    rw (c.max.ensures, column-is (goal.at.returns-then-e c).After-brought-number)
     (keeps_from _ (number (goal.at.returns-then-e c).After-brought-number) (cuts (goal.at.returns-then-e c).After-brought-number).height c.brought-number.result s.args.lo s.args.hi (cuts (goal.at.returns-then-e c).After-brought-number).some (held (goal.at.returns-then-e c).After-brought-number) s.requires.columns ((cuts (goal.at.returns-then-e c).After-brought-number).first c.if-e.true s.args.y))
 
 pub returns : goal.returns
 returns c =
     let s = start (goal.at.returns c).After-brought-number in
-    rw (c.smaller.ensures, column-is (goal.at.returns c).After-brought-number)
+    rw (c.min.ensures, column-is (goal.at.returns c).After-brought-number)
     (keeps_to _ (number (goal.at.returns c).After-brought-number) (cuts (goal.at.returns c).After-brought-number).height c.brought-number.result s.args.lo s.args.hi (cuts (goal.at.returns c).After-brought-number).some (held (goal.at.returns c).After-brought-number) s.requires.columns ((cuts (goal.at.returns c).After-brought-number).last c.if-e.false s.args.y))
