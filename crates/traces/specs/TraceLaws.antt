@@ -1,4 +1,5 @@
 -- Laws: the table of shapes: how its columns are put in, kept and moved; and rows painted by it are those of the rule.
+use Rattle.std.specs.List.{CopiedTo, SameBelow, SameFrom}
 use Rattle.std.specs.Prelude.{◌≡◌, refl, Bool, true, false, List, [], ◌∷◌, ◌++◌, Float, set, take}
 use Rattle.std.proofs.Math.Path.{sym, ap, subst}
 use Rattle.std.proofs.Common.{◌∙◌, inl, inr, append_assoc, mod-lt, zero-mul, length-set, length-append, get_or-set_same, get_or-set_other}
@@ -49,29 +50,15 @@ use Rattle.traces.specs.Traces.{Moved, ColumnPut, left_at, right_at, brush_at, S
 
 -- ---- elements moved up by g, from `from` up to k
 module _ {A : Type 0} {g from : ℕ} {d : A} {old : List A} where
-  pub moved_none : Moved g from d old from old
-  moved_none = record { long = refl; moved = λ m a b. absurd (omega arith); before = λ m a. refl; after = λ m a. refl }
-
-  pub moved_more : {k : ℕ} {new : List A} → Moved g from d old k new → 0 < g → from ≤ k → k < length old → Moved g from d old (k + 1) (set new k (get_or new (k + g) d))
-  moved_more {k} {new} s some low inside = record {
-    long = length-set new k v ∙ s.long;
-    moved = λ m a b. ⊎_elim (λ (here : k ≤ m). last m (omega arith)) (λ (passed : m < k). get_or-set_other new k m v d (λ e. omega arith) ∙ s.moved m a passed) (le-or-lt k m);
-    before = λ m a. get_or-set_other new k m v d (λ e. omega arith) ∙ s.before m a;
-    after = λ m a. get_or-set_other new k m v d (λ e. omega arith) ∙ s.after m (omega arith);
+  -- by `copy_within` of count elements from src on
+  pub moved_within : (src count to : ℕ) (new : List A) → length new ≡ length old → CopiedTo old new src from count × SameBelow old new from × SameFrom old new (from + count)
+      → src ≡ from + g → from + count ≡ to → Moved g from d old to new
+  moved_within src count to new e i f t = record {
+    long = e;
+    moved = λ m a b. i.0 m d a (omega (arith, t)) ∙ ap (λ (n : ℕ). get_or old n d) {x = src + (m - from)} {y = m + g} (omega (arith, f));
+    before = λ m a. i.1 m d a;
+    after = λ m a. i.2 m d (omega (arith, t));
   }
-    where
-      v : A
-      v = get_or new (k + g) d
-
-      last : (m : ℕ) → m ≡ k → get_or (set new k v) m d ≡ get_or old (m + g) d
-      last m e =
-          ap (λ (n : ℕ). get_or (set new k v) n d) e
-          ∙ get_or-set_same new k v d (omega (arith, s.long))
-          ∙ s.after (k + g) (omega arith)
-          ∙ ap (λ (n : ℕ). get_or old (n + g) d) (sym e)
-
-  pub moved_to : {k to : ℕ} {new : List A} → Moved g from d old k new → k ≤ to → to ≤ k → Moved g from d old to new
-  moved_to {k} {to} {new} s h l = subst (λ (i : ℕ). Moved g from d old i new) {x = k} {y = to} (omega arith) s
 
 -- ---- a column, row by row
 -- a place tells its column

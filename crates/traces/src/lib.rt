@@ -10,7 +10,7 @@ ghost use Rattle.picture.specs.Strokes.{brushed_part};
 ghost use Rattle.shapes.specs.declared.Shape.{Shape};
 ghost use Rattle.shapes.specs.Blank.{blank};
 ghost use Rattle.shapes.specs.Ranges.{fits};
-ghost use Rattle.traces.specs.Traces.{Drawable, Moved, ColumnPut, brush_at, Traced, Tabled, RowPainted, TraceSays, TraceListSays, DropColumnSays, PaintRowSays, PaintAllSays};
+ghost use Rattle.traces.specs.Traces.{Drawable, ColumnPut, brush_at, Traced, Tabled, RowPainted, TraceSays, TraceListSays, DropColumnSays, PaintRowSays, PaintAllSays};
 
 use brush::Brush;
 use shapes::{Shape, Shapes};
@@ -21,11 +21,9 @@ fn put_column(h: usize, i: usize, column: &[u16; 512], runs: &mut [u16; 33280])
     requires { (h ≤ 256) × (i < 65) × (length runs.old ≡ 33280) }
     ensures { ColumnPut h i column.now runs.old runs.new }
 {
-    let mut y = 0;
-    while y < h {
+    for y in 0..h {
         runs[y * 130 + i * 2] = column[y * 2];
         runs[y * 130 + i * 2 + 1] = column[y * 2 + 1];
-        y += 1;
     }
 }
 
@@ -71,34 +69,8 @@ pub fn trace_list(
     requires { Drawable w h list × (length runs.old ≡ 33280) × (length paints.old ≡ 260) }
     ensures { TraceListSays w h list runs.new paints.new }
 {
-    let n = list.count;
-    let mut i = 0;
-    while i < n {
-        let s = list.items[i];
-        trace(w, h, s, i, runs, paints);
-        i += 1;
-    }
-}
-
-fn shift_runs(from: usize, to: usize, runs: &mut [u16; 33280])
-    requires { (from ≤ to) × (to + 2 ≤ 33280) × (length runs.old ≡ 33280) }
-    ensures { Moved 2 from 0 runs.old to runs.new }
-{
-    let mut k = from;
-    while k < to {
-        runs[k] = runs[k + 2];
-        k += 1;
-    }
-}
-
-fn shift_paints(from: usize, to: usize, paints: &mut [f32; 260])
-    requires { (from ≤ to) × (to + 4 ≤ 260) × (length paints.old ≡ 260) }
-    ensures { Moved 4 from nan paints.old to paints.new }
-{
-    let mut k = from;
-    while k < to {
-        paints[k] = paints[k + 4];
-        k += 1;
+    for i in 0..list.count {
+        trace(w, h, list.items[i], i, runs, paints);
     }
 }
 
@@ -107,11 +79,10 @@ pub fn drop_column(h: usize, j: usize, n: usize, runs: &mut [u16; 33280], paints
     requires { (h ≤ 256) × (j ≤ n) × (n < 65) × (length runs.old ≡ 33280) × (length paints.old ≡ 260) }
     ensures { DropColumnSays h j n runs.old paints.old runs.new paints.new }
 {
-    shift_paints(j * 4, n * 4, paints);
-    let mut y = 0;
-    while y < h {
-        shift_runs(y * 130 + j * 2, y * 130 + n * 2, runs);
-        y += 1;
+    paints.copy_within((j + 1) * 4..(n + 1) * 4, j * 4);
+    for y in 0..h {
+        let row = y * 130;
+        runs.copy_within(row + (j + 1) * 2..row + (n + 1) * 2, row + j * 2);
     }
 }
 
@@ -175,10 +146,8 @@ pub fn paint_row(
     requires { Tabled w h to runs.now paints.now × (y < h) × (from ≤ to) × (length canvas.old ≡ h * w * 3) × T (all_within canvas.old) }
     ensures { PaintRowSays w h y from to runs.now paints.now canvas.old canvas.new }
 {
-    let mut i = from;
-    while i < to {
+    for i in from..to {
         paint_one(w, h, y, i, runs, paints, canvas);
-        i += 1;
     }
 }
 
@@ -195,9 +164,7 @@ pub fn paint_all(
     requires { Tabled w h to runs.now paints.now × (from ≤ to) × (length canvas.old ≡ h * w * 3) × T (all_within canvas.old) }
     ensures { PaintAllSays w h from to runs.now paints.now canvas.old canvas.new }
 {
-    let mut y = 0;
-    while y < h {
+    for y in 0..h {
         paint_row(w, h, y, from, to, runs, paints, canvas);
-        y += 1;
     }
 }

@@ -48,11 +48,11 @@ fn spanned(w: usize, h: usize, s: Shape, x: Shape) -> Rows
 {
     let old = rows_of(w, h, s);
     let new = rows_of(w, h, x);
-    let top = whole::min_usize(whole::min_usize(old.top, new.top), h);
-    let bottom = whole::min_usize(whole::max_usize(old.bottom, new.bottom), h);
+    let top = old.top.min(new.top).min(h);
+    let bottom = old.bottom.max(new.bottom).min(h);
     Rows {
         top,
-        bottom: whole::max_usize(top, bottom),
+        bottom: top.max(bottom),
     }
 }
 
@@ -63,23 +63,7 @@ fn copy(from: &[f32], start: usize, end: usize, to: &mut [f32])
         × ((i : ℕ) → i < start → get_or to.new i nan ≡ get_or to.old i nan)
         × ((i : ℕ) → end ≤ i → get_or to.new i nan ≡ get_or to.old i nan) }
 {
-    let mut i = start;
-    while i < end {
-        to[i] = from[i];
-        i += 1;
-    }
-}
-
-// The sums before the first n rows, and after them.
-fn copy_sums(from: &[f64; 257], n: usize, to: &mut [f64; 257])
-    requires { (n ≤ 256) × (length to.old ≡ 257) }
-    ensures { (length to.new ≡ 257) × ((y : ℕ) → y ≤ n → get_or to.new y nan ≡ get_or from.now y nan) }
-{
-    let mut y = 0;
-    while y <= n {
-        to[y] = from[y];
-        y += 1;
-    }
+    to[start..end].copy_from_slice(&from[start..end]);
 }
 
 // Row y of a trial's picture is drawn on `second`, over the shapes before j that `first` has, and added to the sum.
@@ -108,7 +92,7 @@ fn try_row(
     tally::running::total_on(target, second, start, n, sum)
 }
 
-// The sums of a trial's picture. Above row `top` they are those of the list, and below `bottom` the two pictures are the same again. So
+// The sums of a trial's picture; `trial` comes as the list's. Above row `top` they are those of the list, and below `bottom` the two pictures are the same again. So
 // if the sum is not below the list's there, neither is the total, since sums rise and rounding keeps their order: then nothing more is
 // drawn, and the list's own total is answered. A sum that is too high before row `bottom` stays so.
 fn try_rows(
@@ -126,23 +110,20 @@ fn try_rows(
     second: &mut [f32],
     trial: &mut [f64; 257],
 ) -> f64
-    requires tabled { Tabled w h to runs.now paints.now × (from ≤ to) × (top ≤ bottom) × (bottom ≤ h) × (length trial.old ≡ 257) }
+    requires tabled { Tabled w h to runs.now paints.now × (from ≤ to) × (top ≤ bottom) × (bottom ≤ h) × (trial.old ≡ sums.now) × (length trial.old ≡ 257) }
     requires targeted { Targeted w h target.now × (length first.now ≡ h * w * 3) × (length second.old ≡ h * w * 3) × T (all_within first.now) × T (all_within second.old) }
     ensures { T (all_within second.new) × (length trial.new ≡ 257) × ((l : List Shape) (q : List Float) → Traced w h l runs.now paints.now → to ≤ length l
         → Apart w h top bottom q (painted_on (shape_painted w h) first.now (slice from to l)) → SummedTo w h target.now q sums.now
         → Judged w h target.now (painted_on (shape_painted w h) first.now (slice from to l)) sums.now trial.new result) }
 {
-    copy_sums(sums, top, trial);
     let mut sum = sums[top];
-    let mut y = top;
-    while y < h {
-        let mark = whole::max_usize(y, bottom);
+    for y in top..h {
+        let mark = y.max(bottom);
         if sums[mark] <= sum {
             return sums[h];
         }
         sum = try_row(w, h, target, y, from, to, runs, paints, first, second, sum);
         trial[y + 1] = sum;
-        y += 1;
     }
     sum
 }
@@ -164,7 +145,7 @@ fn try_candidate(
     paints: &mut [f32; 260],
     trial: &mut [f64; 257],
 ) -> f64
-    requires drawable { Drawable w h list × (made ≤ j) × (j < list.count) × T (fits x) × Traced w h (listed list) runs.old paints.old × (length trial.old ≡ 257) }
+    requires drawable { Drawable w h list × (made ≤ j) × (j < list.count) × T (fits x) × Traced w h (listed list) runs.old paints.old × (trial.old ≡ sums.now) × (length trial.old ≡ 257) }
     requires targeted { Targeted w h target.now × (length first.old ≡ h * w * 3) × (length second.old ≡ h * w * 3) × T (all_within first.old) × T (all_within second.old) }
     ensures { (first.new ≡ painted_on (shape_painted w h) first.old (slice made j (listed list ++ (x ∷ []))))
         × T (all_within first.new)
@@ -244,12 +225,12 @@ pub fn step(
         Some(x) => {
             let list = c.list;
             let j = c.place;
-            let mut trial = [0.0f64; 257];
+            let mut trial = *sums;
             let new = try_candidate(
                 w, h, target, list, c.made, j, x, first, second, sums, runs, paints, &mut trial,
             );
             if new + 1e-9 < c.old {
-                copy_sums(&trial, h, sums);
+                *sums = trial;
                 traces::drop_column(h, j, list.count, runs, paints);
                 let list = shapes::exchange(list, j, x);
                 accept(c, list, new)

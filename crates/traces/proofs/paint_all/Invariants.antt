@@ -1,6 +1,6 @@
 use mathlib.Core.Path.{◌≡◌}
 use mathlib.Core.List.{List}
-use Prim.Native.Nat.{◌-◌, ◌≤◌}
+use Prim.Native.Nat.{◌≤◌}
 use lib.Dec.{T}
 use lib.ListN.{length}
 use lib.Seq.{slice}
@@ -12,7 +12,4 @@ use Rattle.traces.proofs.paint_all.Given as goal
 
 abbrev pub invariant-loop-y : goal.invariant-loop-y
 invariant-loop-y l =
-    (l.y ≤ l.h) × (length l.canvas ≡ length l.initial.canvas) × T (all_within l.canvas) × ((m : List Shape) → Traced l.w l.h m l.runs l.paints → l.to ≤ length m → RowsPainted l.w l.h l.y (slice l.from l.to m) l.initial.canvas l.canvas)
-
-abbrev pub decreases-loop-y : goal.decreases-loop-y
-decreases-loop-y l = l.h - l.y
+    (length l.canvas ≡ length l.initial.canvas) × T (all_within l.canvas) × ((m : List Shape) → Traced l.w l.h m l.runs l.paints → l.to ≤ length m → RowsPainted l.w l.h l.y (slice l.from l.to m) l.initial.canvas l.canvas)

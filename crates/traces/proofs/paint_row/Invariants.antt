@@ -1,6 +1,6 @@
 use mathlib.Core.Path.{◌≡◌}
 use mathlib.Core.List.{List}
-use Prim.Native.Nat.{◌-◌, ◌≤◌}
+use Prim.Native.Nat.{◌≤◌}
 use lib.Dec.{T}
 use lib.ListN.{length}
 use lib.Seq.{slice}
@@ -11,7 +11,4 @@ use Rattle.traces.proofs.paint_row.Given as goal
 
 abbrev pub invariant-loop-i : goal.invariant-loop-i
 invariant-loop-i l =
-    (l.from ≤ l.i) × (l.i ≤ l.to) × (length l.canvas ≡ length l.initial.canvas) × T (all_within l.canvas) × ((m : List Shape) → Traced l.w l.h m l.runs l.paints → l.to ≤ length m → RowPainted l.w l.h l.y (slice l.from l.i m) l.initial.canvas l.canvas)
-
-abbrev pub decreases-loop-i : goal.decreases-loop-i
-decreases-loop-i l = l.to - l.i
+    (length l.canvas ≡ length l.initial.canvas) × T (all_within l.canvas) × ((m : List Shape) → Traced l.w l.h m l.runs l.paints → l.to ≤ length m → RowPainted l.w l.h l.y (slice l.from l.i m) l.initial.canvas l.canvas)

@@ -18,19 +18,18 @@ len : (s : Start) → length s.args.list.items ≡ 64
 len s = s.well_formed.1.1.0.1.1.0.1.0.1
 
 pub loop-i-init : goal.loop-i-init
-loop-i-init c = (omega arith, c.requires.1, c.requires.2, λ k l. absurd (omega arith))
+loop-i-init c = (c.requires.1, c.requires.2, λ k l. absurd (omega arith))
 
 pub trace-requires : goal.trace-requires
 trace-requires c =
     let l = c.loop-i in
-    (c.requires.0.sized, shape-fits c.args.list l.i (omega arith) (omega (arith, len (goal.at.trace-requires c).Start, c.requires.0.few)) c.requires.0.fitting, omega (arith, c.requires.0.few), l.invariant.1, l.invariant.2)
+    (c.requires.0.sized, shape-fits c.args.list l.i (omega arith) (omega (arith, len (goal.at.trace-requires c).Start, c.requires.0.few)) c.requires.0.fitting, omega (arith, c.requires.0.few), l.invariant.0, l.invariant.1)
 
 pub loop-i-preserved : goal.loop-i-preserved
 loop-i-preserved c =
     let l = c.loop-i in
     let a = c.args in
     let t = c.trace in (
-      omega arith,
       t.ensures.0,
       t.ensures.1,
       λ k m.
@@ -38,7 +37,7 @@ loop-i-preserved c =
           (λ (here : l.i ≤ k). let e : l.i ≡ k = omega arith in subst (λ (i : ℕ). Column a.w a.h (get_or a.list.items i blank) t.new.runs t.new.paints i) e t.ensures.2)
           (λ (passed : k < l.i).
           let o = t.ensures.3 k (omega (arith, c.requires.0.few)) (λ e. omega arith) in
-          column_kept a.w a.h (get_or a.list.items k blank) l.runs t.new.runs l.paints t.new.paints k (l.invariant.3 k passed) o.0 o.1)
+          column_kept a.w a.h (get_or a.list.items k blank) l.runs t.new.runs l.paints t.new.paints k (l.invariant.2 k passed) o.0 o.1)
           (le-or-lt l.i k),
     )
 
@@ -46,4 +45,4 @@ pub returns : goal.returns
 returns c =
     let l = c.loop-i in
     let a = c.args in
-    traced_list a.w a.h a.list l.runs l.paints c.requires.0.sized c.requires.0.few (len (goal.at.returns c).Start) l.invariant.1 l.invariant.2 (λ k m. l.invariant.3 k (omega (arith, c.loop-i-test.false)))
+    traced_list a.w a.h a.list l.runs l.paints c.requires.0.sized c.requires.0.few (len (goal.at.returns c).Start) l.invariant.0 l.invariant.1 (λ k m. l.invariant.2 k (omega (arith, c.loop-i-test.false)))

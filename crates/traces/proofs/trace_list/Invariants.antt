@@ -1,5 +1,5 @@
 use mathlib.Core.Path.{◌≡◌}
-use Prim.Native.Nat.{ℕ, ◌-◌, ◌≤◌, ◌<◌}
+use Prim.Native.Nat.{ℕ, ◌<◌}
 use lib.ListN.{length, get_or}
 use Rattle.shapes.specs.Blank.{blank}
 use Rattle.traces.specs.Traces.{Column}
@@ -7,7 +7,4 @@ use Rattle.traces.proofs.trace_list.Given as goal
 
 abbrev pub invariant-loop-i : goal.invariant-loop-i
 invariant-loop-i l =
-    (l.i ≤ l.n) × (length l.runs ≡ 33280) × (length l.paints ≡ 260) × ((k : ℕ) → k < l.i → Column l.w l.h (get_or l.list.items k blank) l.runs l.paints k)
-
-abbrev pub decreases-loop-i : goal.decreases-loop-i
-decreases-loop-i l = l.n - l.i
+    (length l.runs ≡ 33280) × (length l.paints ≡ 260) × ((k : ℕ) → k < l.i → Column l.w l.h (get_or l.list.items k blank) l.runs l.paints k)

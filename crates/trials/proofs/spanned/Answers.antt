@@ -9,11 +9,11 @@ pub returns : goal.returns
 returns c =
     let old = c.rows_of-old.ensures in
     let new = c.rows_of-new.ensures in
-    let top = c.min_usize-top.ensures in
-    let first = c.min_usize.ensures in
-    let last = c.max_usize.ensures in
-    let within = c.min_usize-bottom.ensures in
-    let bottom = c.max_usize-2.ensures in
+    let top = c.min-top.ensures in
+    let first = c.min.ensures in
+    let last = c.max.ensures in
+    let within = c.min-bottom.ensures in
+    let bottom = c.max-2.ensures in
     record {
       ordered = omega (arith, bottom);
       inside = omega (arith, top, within, bottom);

@@ -23,6 +23,7 @@ use Rattle.trials.specs.SumLaws.{sums-last}
 use Rattle.trials.specs.StepLaws.{listed-length, stepped_none, stepped_kept, stepped_taken}
 use Rattle.trials.specs.Courses.{SummedTo, Judged, Aids, Aided, aids_of, CandidateFits, Held, Stepped}
 use native.Mathlib.Omega.{arith}
+use borrow.Author.Rules.{rules}
 use Rattle.trials.proofs.step.Goals as goal
 use Rattle.trials.proofs.step.Goals.{After-try_candidate-new, Else-new-c, In-Some, Start, Then-new-c}
 
@@ -36,10 +37,7 @@ chosen : (c : In-Some) → T (fits c.in-Some.x)
 chosen c = subst CandidateFits c.in-Some.is c.requires.candidate
 
 pub try_candidate-new-requires : goal.try_candidate-new-requires
-try_candidate-new-requires c = let r = c.requires in record { drawable = (r.list, r.behind, r.place, chosen (goal.at.try_candidate-new-requires c).In-Some, r.traced, length-replicate 257 nought); targeted = (r.aim, r.first_long, r.second_long, r.inside, r.second-inside) }
-
-pub copy_sums-requires : goal.copy_sums-requires
-copy_sums-requires c = let r = c.requires in (r.list.sized.h_high, r.sums_long)
+try_candidate-new-requires c = let r = c.requires in record { drawable = (r.list, r.behind, r.place, chosen (goal.at.try_candidate-new-requires c).In-Some, r.traced, refl, r.sums_long); targeted = (r.aim, r.first_long, r.second_long, r.inside, r.second-inside) }
 
 pub drop_column-requires : goal.drop_column-requires
 drop_column-requires c = let r = c.requires in let t = c.try_candidate-new.ensures.3 in (r.list.sized.h_high, omega (arith, r.place), omega (arith, r.list.few), t.runs_long, t.paints_long)
@@ -93,7 +91,7 @@ abbrev trialSums : After-try_candidate-new → List Float
 trialSums t = t.try_candidate-new.new.trial
 
 abbrev start_at : After-try_candidate-new → Start
-start_at t = t.before.before.before.before.before.before.before.before.before.before.before.before
+start_at t = t.before.before.before.before.before.before.before.before.before.before.before.before.before
 
 abbrev shape_at : After-try_candidate-new → Shape
 shape_at t = t.in-Some.x
@@ -159,10 +157,11 @@ returns-then-new-c c b f e d =
     let s = start_at (goal.at.returns-then-new-c c).After-try_candidate-new in
     let a = s.args in
     let low = is-lower (goal.at.returns-then-new-c c).Then-new-c in
-    let sums = c.copy_sums in
+    let sums = c.try_candidate-new.new.trial in
+    let long-sums : length c.try_candidate-new.new.trial ≡ 257 = search rules in
     let table = c.drop_column in
     let x = c.exchange-list in
-    let aids = aids_of (secondAt (goal.at.returns-then-new-c c).After-try_candidate-new) sums.new.to table.new.runs table.new.paints in
+    let aids = aids_of (secondAt (goal.at.returns-then-new-c c).After-try_candidate-new) sums table.new.runs table.new.paints in
     let long = length-append (listAt (goal.at.returns-then-new-c c).After-try_candidate-new) (shape_at (goal.at.returns-then-new-c c).After-try_candidate-new ∷ []) ∙ ap (λ (n : ℕ). n + 1) (count-is (goal.at.returns-then-new-c c).After-try_candidate-new b f d) in
     let below : a.c.place < length (listAt (goal.at.returns-then-new-c c).After-try_candidate-new) = omega (arith, s.requires.place, count-is (goal.at.returns-then-new-c c).After-try_candidate-new b f d) in
     subst (λ (r : Course). Stepped (scene_at s b f) (size_at s) (served_at s b) a.c r (first_at (goal.at.returns-then-new-c c).After-try_candidate-new) aids) (sym c.accept.ensures)
@@ -173,8 +172,8 @@ returns-then-new-c c b f e d =
     (record {
       second_long = c.try_candidate-new.auto.second ∙ s.requires.second_long;
       inside = c.try_candidate-new.ensures.2;
-      sums_long = sums.ensures.0;
-      sums = subst (λ (p : List Float). SummedTo a.w a.h a.target.now p sums.new.to) (sym (drawn_exchanged (scene_at s b f) (listAt (goal.at.returns-then-new-c c).After-try_candidate-new) a.c.place (shape_at (goal.at.returns-then-new-c c).After-try_candidate-new)) ∙ ap (drawn (scene_at s b f)) (sym x.ensures.2)) (λ y k. sums.ensures.1 y k ∙ new-sums (goal.at.returns-then-new-c c).After-try_candidate-new b f d low y k);
+      sums_long = long-sums;
+      sums = subst (λ (p : List Float). SummedTo a.w a.h a.target.now p sums) (sym (drawn_exchanged (scene_at s b f) (listAt (goal.at.returns-then-new-c c).After-try_candidate-new) a.c.place (shape_at (goal.at.returns-then-new-c c).After-try_candidate-new)) ∙ ap (drawn (scene_at s b f)) (sym x.ensures.2)) (new-sums (goal.at.returns-then-new-c c).After-try_candidate-new b f d low);
       traced = subst (λ (l : List Shape). Traced a.w a.h l table.new.runs table.new.paints) (without_front a.c.place (listAt (goal.at.returns-then-new-c c).After-try_candidate-new) (shape_at (goal.at.returns-then-new-c c).After-try_candidate-new) below ∙ sym x.ensures.2)
           (traced_drop a.w a.h a.c.place a.c.list.count (allAt (goal.at.returns-then-new-c c).After-try_candidate-new) (runsAt (goal.at.returns-then-new-c c).After-try_candidate-new) table.new.runs (paintsAt (goal.at.returns-then-new-c c).After-try_candidate-new) table.new.paints c.try_candidate-new.ensures.3 long (omega (arith, s.requires.place)) table.ensures.2 table.ensures.3 table.ensures.0 table.ensures.1);
     })

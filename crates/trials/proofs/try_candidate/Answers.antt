@@ -54,7 +54,7 @@ pub try_rows-requires : goal.try_rows-requires
 try_rows-requires c =
     let t = c.trace in
     let p = c.paint_all in
-    let o = c.spanned-rows.ensures in record { tabled = (table_of c.args.w c.args.h (c.args.list.count + 1) (listed c.args.list ++ (c.args.x ∷ [])) t.new.runs t.new.paints (stands (goal.at.try_rows-requires c).Start t.new.runs t.new.paints t.ensures.0 t.ensures.1 t.ensures.2 t.ensures.3) (omega (arith, all_long (goal.at.try_rows-requires c).Start)), omega (arith, c.requires.drawable.2), o.ordered, o.inside, c.requires.drawable.5); targeted = (c.requires.targeted.0, p.auto.canvas ∙ c.requires.targeted.1, c.requires.targeted.2, p.ensures.0, c.requires.targeted.4) }
+    let o = c.spanned-rows.ensures in record { tabled = (table_of c.args.w c.args.h (c.args.list.count + 1) (listed c.args.list ++ (c.args.x ∷ [])) t.new.runs t.new.paints (stands (goal.at.try_rows-requires c).Start t.new.runs t.new.paints t.ensures.0 t.ensures.1 t.ensures.2 t.ensures.3) (omega (arith, all_long (goal.at.try_rows-requires c).Start)), omega (arith, c.requires.drawable.2), o.ordered, o.inside, c.requires.drawable.5, c.requires.drawable.6); targeted = (c.requires.targeted.0, p.auto.canvas ∙ c.requires.targeted.1, c.requires.targeted.2, p.ensures.0, c.requires.targeted.4) }
 
 pub returns : goal.returns
 returns c =
