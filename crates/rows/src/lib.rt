@@ -1,7 +1,7 @@
 // A row's part of the table: its running sums, place by place.
 #![tactic(auto)]
 
-ghost use Rattle.std.specs.Prelude.{◌≡◌, true, false, cond, ◌++◌, ◌+◌, ◌*◌, ◌<◌, ◌≤◌, ◌^◌, length, take, get_or, T};
+ghost use Rattle.std.specs.Prelude.{◌≡◌, ℕ, nat_eq, true, false, cond, ◌++◌, ◌+◌, ◌*◌, ◌<◌, ◌≤◌, ◌^◌, length, take, get_or, T};
 ghost use Rattle.std.proofs.lemmas.List.Edits.{sets};
 ghost use Rattle.std.specs.Float.{nan};
 ghost use Rattle.float.specs.Within.{nought, all_numbers};
@@ -24,34 +24,57 @@ pub fn rebuild_row(
     requires t { numbers ≡ true → T (all_numbers target.now) × T (all_numbers canvas.now) }
     ensures { RebuildRowSays whole w target.now canvas.now row.old row.new }
 {
-    let mut s = ShapeSums::new();
-    put(&mut row[0..15], s, whole);
-    let mut seen = 0.0;
-    for x in 0..w {
-        s = step(s, target, canvas, x, numbers);
-        let a = (x + 1) * 15;
-        seen = read_here(seen, row, a);
-        put(&mut row[a..a + 15], s, whole);
+    match (whole, numbers) {
+        (true, true) => write_row::<0, _>(row, target, canvas, w, step_numbers),
+        (true, false) => write_row::<0, _>(row, target, canvas, w, step_any),
+        (false, true) => update_row(row, target, canvas, w),
+        (false, false) => write_row::<6, _>(row, target, canvas, w, step_any),
     }
-    keep_reads(row, seen);
 }
 
-// The nine that read the canvas, of rows without a NaN, in a loop of its own: there the compiler leaves the other six sums out.
+// The nine that read the canvas, of rows without a NaN.
 pub fn update_row(row: &mut [f64], target: &[f32], canvas: &[f32], w: usize)
     requires row_sizes { RowSizes w target.now canvas.now row.old }
     requires t { T (all_numbers target.now) × T (all_numbers canvas.now) }
     ensures { RebuildRowSays false w target.now canvas.now row.old row.new }
 {
+    write_row::<6, _>(row, target, canvas, w, step_numbers)
+}
+
+// A row by a step that adds a pixel; FIRST is the first number of a place that is written, 0 or 6. It is known when this is compiled: of the
+// nine the compiler leaves the other six sums out.
+fn write_row<const FIRST: usize, S: Fn(ShapeSums, &[f32], &[f32], usize) -> ShapeSums>(
+    row: &mut [f64],
+    target: &[f32],
+    canvas: &[f32],
+    w: usize,
+    step: S,
+)
+    requires row_sizes { RowSizes w target.now canvas.now row.old }
+    requires may { (s : _) (x : ℕ) → x < w → s.count + 1 < 2 ^ 32 → S.pre step s target canvas x }
+    requires adds { (s : _) (x : ℕ) (r : _) → x < w → S.post step s target canvas x r → r ≡ plus s (pixel_at target.now canvas.now x) }
+    ensures { RebuildRowSays (nat_eq FIRST 0) w target.now canvas.now row.old row.new }
+{
     let mut s = ShapeSums::new();
-    put(&mut row[0..15], s, false);
+    put(&mut row[0..15], s, FIRST == 0);
     let mut seen = 0.0;
     for x in 0..w {
-        s = step_numbers(s, target, canvas, x);
+        s = step(s, target, canvas, x);
         let a = (x + 1) * 15;
-        seen = read_before(seen, row, a, w);
-        put(&mut row[a..a + 15], s, false);
+        seen = read_ahead(seen, row, a, w, FIRST == 0);
+        put(&mut row[a..a + 15], s, FIRST == 0);
     }
     keep_reads(row, seen);
+}
+
+// Of all fifteen two that are written here; of the nine, in a wide row, a number before and the last of those that are written here.
+fn read_ahead(seen: f64, row: &[f64], a: usize, w: usize, whole: bool) -> f64
+    requires { a + 15 ≤ length row.now }
+{
+    if whole {
+        return read_here(seen, row, a);
+    }
+    read_before(seen, row, a, w)
 }
 
 // Numbers at two places, of each line of memory that is to be written one at least. A large table lies beyond the near caches, and lines that
@@ -92,17 +115,6 @@ fn keep_reads(row: &mut [f64], seen: f64)
 }
 
 // Pixel x more.
-fn step(s: ShapeSums, target: &[f32], canvas: &[f32], x: usize, numbers: bool) -> ShapeSums
-    requires count_bound { (s.count + 1 < 2 ^ 32) × (x * 3 + 3 ≤ length target.now) × (x * 3 + 3 ≤ length canvas.now) }
-    requires t { numbers ≡ true → T (all_numbers target.now) × T (all_numbers canvas.now) }
-    ensures { result ≡ plus s (pixel_at target.now canvas.now x) }
-{
-    if numbers {
-        return step_numbers(s, target, canvas, x);
-    }
-    step_any(s, target, canvas, x)
-}
-
 fn step_any(s: ShapeSums, target: &[f32], canvas: &[f32], x: usize) -> ShapeSums
     requires { (s.count + 1 < 2 ^ 32) × (x * 3 + 3 ≤ length target.now) × (x * 3 + 3 ≤ length canvas.now) }
     ensures { result ≡ plus s (pixel_at target.now canvas.now x) }
