@@ -13,7 +13,7 @@ use Rattle.laws.specs.Ends.{Ends, none, ends, ends_of, left_of, right_of}
 use Rattle.laws.specs.EndsLaws.{Ended, ended}
 use Rattle.laws.specs.PixelSums.{add_span, point_row, span_sum}
 use Rattle.laws.specs.RowFold.{rows_from}
-use Rattle.laws.specs.RowFoldLaws.{rows_none, rows_more, rows_same, rows-window, span_rows, point_rows, run-pixels}
+use Rattle.laws.specs.RowFoldLaws.{rows_none, rows_more, rows_split, rows_same, rows-window, span_rows, point_rows, run-pixels}
 use Rattle.cover.specs.declared.Kind.{Kind}
 use Rattle.cover.specs.Cover.{covered, RunsSays}
 use Rattle.cover.specs.CoverLaws.{left-ends, right-ends, row_run_lem, run_bounds}
@@ -74,6 +74,18 @@ module _ (w : ℕ) (target canvas : List Float) where
       → plus (pixels_added w target canvas y left (x - left) s) (pixel_at w target canvas y x) ≡ pixels_added w target canvas y left (x + 1 - left) s
   unfolding pixels_added
   pixels-more y left x s l = rows_more (λ z u. plus u (pixel_at w target canvas y z)) left x s l
+
+  -- from pixel x on, after those before it
+  pub pixels-cut : (y left x right : ℕ) (s : ShapeSums) → left ≤ x → x ≤ right
+      → pixels_added w target canvas y x (right - x) (pixels_added w target canvas y left (x - left) s) ≡ pixels_added w target canvas y left (right - left) s
+  unfolding pixels_added
+  pixels-cut y left x right s l r =
+      let step : ℕ → ShapeSums → ShapeSums = λ z u. plus u (pixel_at w target canvas y z) in
+      let e : left + (x - left) ≡ x = omega arith in
+      let g : x - left + (right - x) ≡ right - left = omega arith in
+      ap (λ (a : ℕ). rows_from step a (right - x) (rows_from step left (x - left) s)) (sym e)
+      ∙ rows_split step left (x - left) (right - x) s
+      ∙ ap (λ (n : ℕ). rows_from step left n s) g
 
   -- each adds one to the count
   pub pixels-count : (y left k : ℕ) (s : ShapeSums) → (pixels_added w target canvas y left k s).count ≡ s.count + k

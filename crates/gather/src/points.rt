@@ -185,15 +185,34 @@ fn push_known(
     ensures { unpaired_of result ≡ pixels_added w target.now canvas.now y left (right - left) (unpaired_of sums) }
 {
     let mut s = sums;
-    let mut x = left;
-    while x < right {
+    for x in left..right {
         s = push_numbers(target, canvas, (y * w + x) * 3, s);
-        x += 1;
     }
     s
 }
 
-// The same of any bits: each is looked at until there is a NaN, and from there on each channel.
+// The same of any bits.
+fn push_run_any(
+    target: &[f32],
+    canvas: &[f32],
+    w: usize,
+    y: usize,
+    left: usize,
+    right: usize,
+    sums: Paired,
+) -> Paired
+    requires sizes { (w ≤ 256) × (y < 256) × (left ≤ right) × (right ≤ w) × (sums.count + (right - left) < 2 ^ 31) }
+    requires lent { (y * w * 3 + w * 3 ≤ length target.now) × (y * w * 3 + w * 3 ≤ length canvas.now) }
+    ensures { unpaired_of result ≡ pixels_added w target.now canvas.now y left (right - left) (unpaired_of sums) }
+{
+    let mut s = sums;
+    for x in left..right {
+        s = push_any(target, canvas, (y * w + x) * 3, s);
+    }
+    s
+}
+
+// The same: each is looked at until there is a NaN, and from there on each channel.
 fn push_tested(
     target: &[f32],
     canvas: &[f32],
@@ -208,17 +227,11 @@ fn push_tested(
     ensures { unpaired_of result ≡ pixels_added w target.now canvas.now y left (right - left) (unpaired_of sums) }
 {
     let mut s = sums;
-    let mut x = left;
-    while x < right {
+    for x in left..right {
         if !numbers_at(target, canvas, (y * w + x) * 3) {
-            break;
+            return push_run_any(target, canvas, w, y, x, right, s);
         }
         s = push_numbers(target, canvas, (y * w + x) * 3, s);
-        x += 1;
-    }
-    while x < right {
-        s = push_any(target, canvas, (y * w + x) * 3, s);
-        x += 1;
     }
     s
 }
@@ -257,12 +270,10 @@ fn push_rows(
     ensures { unpaired_of result ≡ points_added w target.now canvas.now runs.now top (bottom - top) }
 {
     let mut s = no_pairs();
-    let mut y = top;
-    while y < bottom {
+    for y in top..bottom {
         let left = runs[y * 2] as usize;
         let right = runs[y * 2 + 1] as usize;
         s = push_row(target, canvas, w, y, left, right, s);
-        y += 1;
     }
     s
 }

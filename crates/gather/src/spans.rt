@@ -27,12 +27,10 @@ fn add_rows(runs: &[u16; 512], top: usize, bottom: usize, table: &[f64], w: usiz
     ensures { result ≡ runs_added w table.now runs.now top (bottom - top) }
 {
     let mut s = ShapeSums::new();
-    let mut y = top;
-    while y < bottom {
+    for y in top..bottom {
         let left = runs[y * 2] as usize;
         let right = runs[y * 2 + 1] as usize;
         s = add_row(table, w, y, left, right, s);
-        y += 1;
     }
     s
 }

@@ -62,12 +62,6 @@ push_numbers-s-requires c =
       );
     }
 
-pub overflow_add-x : goal.overflow_add-x
-overflow_add-x c = omega (arith, place (goal.at.overflow_add-x c).In-loop-x, c.requires.sizes.0)
-
-pub loop-x-smaller : goal.loop-x-smaller
-loop-x-smaller c = omega (arith, c.loop-x-test.true)
-
 pub loop-x-preserved : goal.loop-x-preserved
 unfolding plus pixel_sums unpaired_of
 loop-x-preserved c =

@@ -78,12 +78,6 @@ push_row-s-requires c = record {
   lent = (inside (goal.at.push_row-s-requires c).In-loop-y (length c.args.target.now) c.requires.sizes.3, inside (goal.at.push_row-s-requires c).In-loop-y (length c.args.canvas.now) c.requires.sizes.4);
 }
 
-pub overflow_add-y : goal.overflow_add-y
-overflow_add-y c = omega (arith, below (goal.at.overflow_add-y c).In-loop-y)
-
-pub loop-y-smaller : goal.loop-y-smaller
-loop-y-smaller c = omega (arith, c.loop-y-test.true)
-
 pub loop-y-preserved : goal.loop-y-preserved
 unfolding unpaired_of
 loop-y-preserved c =

@@ -6,10 +6,10 @@ use Rattle.sums.specs.Sums.{plus, pixel_sums}
 use Rattle.gather.specs.RunSums.{pixels_added}
 use Rattle.gather.specs.Paired.{unpaired_of}
 use Rattle.gather.specs.Gathered.{pixel_at}
-use Rattle.gather.specs.RunSumLaws.{pixels-none, pixels-more}
+use Rattle.gather.specs.RunSumLaws.{pixels-none, pixels-more, pixels-cut}
 use native.Mathlib.Omega.{arith}
 use Rattle.gather.proofs.points.push_tested.Goals as goal
-use Rattle.gather.proofs.points.push_tested.Goals.{In-loop-x, In-loop-x-2}
+use Rattle.gather.proofs.points.push_tested.Goals.{In-loop-x}
 
 -- `gather::points::push_tested` meets its contract: the sums so far are those of the pixels to the left, also where a NaN ended the first loop.
 
@@ -70,12 +70,6 @@ push_numbers-s-requires c =
       numbers_in = c.numbers_at.ensures (c.if-not-numbers_at.false);
     }
 
-pub overflow_add-x : goal.overflow_add-x
-overflow_add-x c = omega (arith, place (goal.at.overflow_add-x c).In-loop-x, c.requires.sizes.0)
-
-pub loop-x-smaller : goal.loop-x-smaller
-loop-x-smaller c = omega (arith, c.loop-x-test.true)
-
 pub loop-x-preserved : goal.loop-x-preserved
 unfolding plus pixel_sums unpaired_of
 loop-x-preserved c =
@@ -89,59 +83,23 @@ loop-x-preserved c =
           ∙ pixels-more a.w a.target.now a.canvas.now a.y a.left l.x (unpaired_of a.sums) l.invariant.0,
     )
 
-pub loop-x-2-init : goal.loop-x-2-init
-loop-x-2-init c = let l = c.loop-x in (l.invariant.0, omega arith, l.invariant.1, omega arith, λ q e. e)
+-- from the first NaN on
+pub push_run_any-requires : goal.push_run_any-requires
+push_run_any-requires c =
+    let l = c.loop-x in
+    record { sizes = (c.requires.sizes.0, c.requires.sizes.1, l.invariant.1, c.requires.sizes.3, omega (arith, l.invariant.2, l.invariant.0, l.invariant.1, c.requires.sizes.4)); lent = c.requires.lent }
 
--- in the second loop
-module _ (c : In-loop-x-2) where
-  place2 : c.loop-x-2.x < c.args.w
-  place2 = omega (arith, c.requires.sizes.3, c.loop-x-2-test.true)
-
-  inside2 : (c.args.y * c.args.w + c.loop-x-2.x) * 3 + 3 ≤ c.args.y * c.args.w * 3 + c.args.w * 3
-  inside2 = omega (arith, place2)
-
-pub overflow_mul-y-in-loop-x-2-2 : goal.overflow_mul-y-in-loop-x-2-2
-overflow_mul-y-in-loop-x-2-2 c = omega (arith, small c.args.y c.args.w c.requires.sizes.1 c.requires.sizes.0)
-
-pub overflow_add-y-in-loop-x-2 : goal.overflow_add-y-in-loop-x-2
-overflow_add-y-in-loop-x-2 c = omega (arith, small c.args.y c.args.w c.requires.sizes.1 c.requires.sizes.0, place2 (goal.at.overflow_add-y-in-loop-x-2 c).In-loop-x-2, c.requires.sizes.0)
-
-pub overflow_mul-y-in-loop-x-2-3 : goal.overflow_mul-y-in-loop-x-2-3
-overflow_mul-y-in-loop-x-2-3 c = omega (arith, small c.args.y c.args.w c.requires.sizes.1 c.requires.sizes.0, place2 (goal.at.overflow_mul-y-in-loop-x-2-3 c).In-loop-x-2, c.requires.sizes.0)
-
-pub push_any-s-requires : goal.push_any-s-requires
-push_any-s-requires c =
-    let l = c.loop-x-2 in
-    let f = c.loop-x in (
-      omega (arith, inside2 (goal.at.push_any-s-requires c).In-loop-x-2, c.requires.lent.0),
-      omega (arith, inside2 (goal.at.push_any-s-requires c).In-loop-x-2, c.requires.lent.1),
-      omega (arith, l.invariant.3, f.invariant.2, f.invariant.0, l.invariant.1, c.requires.sizes.4, c.loop-x-2-test.true),
-    )
-
-pub overflow_add-x-in-loop-x-2 : goal.overflow_add-x-in-loop-x-2
-overflow_add-x-in-loop-x-2 c = omega (arith, place2 (goal.at.overflow_add-x-in-loop-x-2 c).In-loop-x-2, c.requires.sizes.0)
-
-pub loop-x-2-smaller : goal.loop-x-2-smaller
-loop-x-2-smaller c = omega (arith, c.loop-x-2-test.true)
-
-pub loop-x-2-preserved : goal.loop-x-2-preserved
-unfolding plus pixel_sums unpaired_of
-loop-x-2-preserved c =
-    let l = c.loop-x-2 in
+pub returns-then-not-numbers_at : goal.returns-then-not-numbers_at
+returns-then-not-numbers_at c =
+    let l = c.loop-x in
     let a = c.args in
-    let r = c.push_any-s.ensures in (
-      l.invariant.0,
-      omega (arith, l.invariant.1),
-      omega (arith, c.loop-x-2-test.true),
-      omega (arith, ap (λ (q : ShapeSums). q.count) r, l.invariant.3, l.invariant.1),
-      λ q e.
-          r ∙ ap (λ (u : ShapeSums). plus u (pixel_at a.w a.target.now a.canvas.now a.y l.x)) (l.invariant.4 q e)
-          ∙ pixels-more a.w a.target.now a.canvas.now a.y a.left l.x q (omega (arith, l.invariant.0, l.invariant.1)),
-    )
+    c.push_run_any.ensures
+    ∙ ap (pixels_added a.w a.target.now a.canvas.now a.y l.x (a.right - l.x)) l.invariant.3
+    ∙ pixels-cut a.w a.target.now a.canvas.now a.y a.left l.x a.right (unpaired_of a.sums) l.invariant.0 l.invariant.1
 
 pub returns : goal.returns
 returns c =
-    let l = c.loop-x-2 in
+    let l = c.loop-x in
     let a = c.args in
-    let e : l.x ≡ a.right = omega (arith, l.invariant.2, c.loop-x-2-test.false) in
-    l.invariant.4 (unpaired_of a.sums) c.loop-x.invariant.3 ∙ ap (λ (x : ℕ). pixels_added a.w a.target.now a.canvas.now a.y a.left (x - a.left) (unpaired_of a.sums)) e
+    let e : l.x ≡ a.right = omega (arith, l.invariant.1, c.loop-x-test.false) in
+    l.invariant.3 ∙ ap (λ (x : ℕ). pixels_added a.w a.target.now a.canvas.now a.y a.left (x - a.left) (unpaired_of a.sums)) e

@@ -1,6 +1,5 @@
 use mathlib.Core.Path.{◌≡◌}
 use Prim.Native.Nat.{◌+◌, ◌-◌, ◌≤◌}
-use Rattle.sums.specs.declared.ShapeSums.{ShapeSums}
 use Rattle.gather.specs.RunSums.{pixels_added}
 use Rattle.gather.specs.Paired.{unpaired_of}
 use Rattle.gather.proofs.points.push_tested.Given as goal
@@ -11,12 +10,3 @@ invariant-loop-x l =
 
 abbrev pub decreases-loop-x : goal.decreases-loop-x
 decreases-loop-x l = l.right - l.x
-
--- in terms of what the first loop left
-abbrev pub invariant-loop-x-2 : goal.invariant-loop-x-2
-invariant-loop-x-2 l =
-    (l.left ≤ l.initial.x) × (l.initial.x ≤ l.x) × (l.x ≤ l.right) × (l.s.count ≡ l.initial.s.count + (l.x - l.initial.x))
-    × ((q : ShapeSums) → unpaired_of l.initial.s ≡ pixels_added l.w l.target l.canvas l.y l.left (l.initial.x - l.left) q → unpaired_of l.s ≡ pixels_added l.w l.target l.canvas l.y l.left (l.x - l.left) q)
-
-abbrev pub decreases-loop-x-2 : goal.decreases-loop-x-2
-decreases-loop-x-2 l = l.right - l.x

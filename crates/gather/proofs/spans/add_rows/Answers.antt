@@ -73,12 +73,6 @@ add_row-s-requires c = (
   omega (arith, (run (goal.at.add_row-s-requires c).In-loop-y).0, (run (goal.at.add_row-s-requires c).In-loop-y).1, below (goal.at.add_row-s-requires c).In-loop-y, c.loop-y.invariant.2, c.requires.sizes.0),
 )
 
-pub overflow_add-y : goal.overflow_add-y
-overflow_add-y c = omega (arith, below (goal.at.overflow_add-y c).In-loop-y)
-
-pub loop-y-smaller : goal.loop-y-smaller
-loop-y-smaller c = omega (arith, c.loop-y-test.true)
-
 pub loop-y-preserved : goal.loop-y-preserved
 loop-y-preserved c =
     let l = c.loop-y in
