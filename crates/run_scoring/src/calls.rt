@@ -10,6 +10,13 @@ pub(crate) enum Call {
     Sums,
 }
 
+// From the table, or from the two pictures.
+#[derive(Clone, Copy, PartialEq, Eq)]
+pub(crate) enum By {
+    Spans,
+    Points,
+}
+
 fn by_spans(
     rt: &impl Print,
     kind: Kind,
@@ -103,7 +110,7 @@ fn by_points(
                 rt, x0, y0, x1, y1, x2, y2, call, levels, w, h, target, canvas,
             )?;
         }
-        Kind::Quad(x0, y0, x1, y1, x2, y2, x3, y3) => {
+        Kind::Quad(..) => {
             return Ok(false);
         }
     }
@@ -112,18 +119,14 @@ fn by_points(
 
 fn fill(xs: &mut [f32], first: f32) {
     let mut x = first;
-    for i in 0..xs.len() {
-        xs[i] = x;
+    for place in xs {
+        *place = x;
         x = 3.9 * x * (1.0 - x);
     }
 }
 
-fn build(target: &[f32; 110], canvas: &[f32; 110], places: &mut [f64]) {
-    let t = &target[..];
-    let c = &canvas[..];
-    if 600 <= places.len() {
-        let _ = table::build(&t[0..105], &c[0..105], 7, 5, &mut places[0..600]);
-    }
+fn build(target: &[f32; 110], canvas: &[f32; 110], places: &mut [f64; 620]) {
+    let _ = table::build(&target[0..105], &canvas[0..105], 7, 5, &mut places[0..600]);
 }
 
 fn on_table(
@@ -137,12 +140,12 @@ fn on_table(
     target: &[f32; 110],
     canvas: &[f32; 110],
 ) -> io::Result<bool> {
-    if 620 < numbers {
-        return Ok(false);
-    }
     let mut places = [0.0; 620];
     build(target, canvas, &mut places);
-    by_spans(rt, kind, call, levels, w, h, &places[0..numbers])?;
+    let Some(places) = places.get(..numbers) else {
+        return Ok(false);
+    };
+    by_spans(rt, kind, call, levels, w, h, places)?;
     Ok(true)
 }
 
@@ -158,28 +161,19 @@ fn on_pictures(
     target: &[f32],
     canvas: &[f32],
 ) -> io::Result<bool> {
-    if target.len() < numbers {
+    let Some(target) = target.get(..numbers) else {
         return Ok(false);
-    }
-    if canvas.len() < others {
+    };
+    let Some(canvas) = canvas.get(..others) else {
         return Ok(false);
-    }
-    by_points(
-        rt,
-        kind,
-        call,
-        levels,
-        w,
-        h,
-        &target[0..numbers],
-        &canvas[0..others],
-    )
+    };
+    by_points(rt, kind, call, levels, w, h, target, canvas)
 }
 
 // On a target, a canvas and their table, with so many numbers lent.
 pub(crate) fn called(
     rt: &impl Print,
-    spans: bool,
+    by: By,
     kind: Kind,
     call: Call,
     levels: &[f32],
@@ -192,10 +186,10 @@ pub(crate) fn called(
     let mut canvas = [0.0f32; 110];
     fill(&mut target, 0.3);
     fill(&mut canvas, 0.6);
-    if spans {
-        return on_table(rt, kind, call, levels, w, h, numbers, &target, &canvas);
+    match by {
+        By::Spans => on_table(rt, kind, call, levels, w, h, numbers, &target, &canvas),
+        By::Points => on_pictures(
+            rt, kind, call, levels, w, h, numbers, others, &target, &canvas,
+        ),
     }
-    on_pictures(
-        rt, kind, call, levels, w, h, numbers, others, &target, &canvas,
-    )
 }

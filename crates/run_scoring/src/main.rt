@@ -18,20 +18,17 @@ mod calls;
 mod shapes;
 
 use answers::answer;
-use calls::{Call, called};
+use calls::{By, Call, called};
 use cover::Kind;
 use score::Request;
-use shapes::{Asked, bits32, float32, shape};
+use shapes::{bits32, float32, shape};
 use std::io;
 use std::io::Read;
 use sums::ShapeSums;
 use words::scan;
 
 // 64 levels of 6 bits, six more numbers, and one of them another.
-fn fill_levels(levels: &mut [f32], at: u64, bad: u64) {
-    if levels.len() != 70 {
-        return;
-    }
+fn fill_levels(levels: &mut [f32; 70], at: u64, bad: u64) {
     let _ = grade::levels::alpha_levels(6, &mut levels[0..64]);
     if at < 70 {
         levels[at as usize] = float32(bad);
@@ -41,7 +38,7 @@ fn fill_levels(levels: &mut [f32], at: u64, bad: u64) {
 // W, H, NUMBERS, OTHERS behind four others.
 fn with_levels(
     rt: &impl Print,
-    spans: bool,
+    by: By,
     kind: Kind,
     request: Request,
     levels: &[f32],
@@ -49,7 +46,7 @@ fn with_levels(
 ) -> io::Result<bool> {
     called(
         rt,
-        spans,
+        by,
         kind,
         Call::Score(request),
         levels,
@@ -63,26 +60,25 @@ fn with_levels(
 // OPACITY or COUNT, LENT, AT, BAD, W, H, NUMBERS, OTHERS.
 fn score_line(
     rt: &impl Print,
-    spans: bool,
+    by: By,
     kind: Kind,
     request: Request,
     p: &[u64; 11],
 ) -> io::Result<bool> {
     let mut levels = [0.5f32; 70];
     fill_levels(&mut levels, p[2], p[3]);
-    let lent = p[1] as usize;
-    if 70 < lent {
+    let Some(lent) = levels.get(..p[1] as usize) else {
         return Ok(false);
-    }
-    with_levels(rt, spans, kind, request, &levels[0..lent], p)
+    };
+    with_levels(rt, by, kind, request, lent, p)
 }
 
 // W, H, NUMBERS, OTHERS.
-fn sums_line(rt: &impl Print, spans: bool, kind: Kind, p: &[u64; 11]) -> io::Result<bool> {
+fn sums_line(rt: &impl Print, by: By, kind: Kind, p: &[u64; 11]) -> io::Result<bool> {
     let levels = [0.0f32; 1];
     called(
         rt,
-        spans,
+        by,
         kind,
         Call::Sums,
         &levels,
@@ -95,30 +91,30 @@ fn sums_line(rt: &impl Print, spans: bool, kind: Kind, p: &[u64; 11]) -> io::Res
 
 fn sums_called(rt: &impl Print, name: &[u8], p: &[u64; 11], kind: Kind) -> io::Result<bool> {
     if check::same(name, b"spans-sums") {
-        return sums_line(rt, true, kind, p);
+        return sums_line(rt, By::Spans, kind, p);
     }
     if check::same(name, b"points-sums") {
-        return sums_line(rt, false, kind, p);
+        return sums_line(rt, By::Points, kind, p);
     }
     Ok(false)
 }
 
 fn opacity_called(rt: &impl Print, name: &[u8], p: &[u64; 11], kind: Kind) -> io::Result<bool> {
     if check::same(name, b"spans-opacity") {
-        return score_line(rt, true, kind, Request::Opacity(float32(p[0])), p);
+        return score_line(rt, By::Spans, kind, Request::Opacity(float32(p[0])), p);
     }
     if check::same(name, b"points-opacity") {
-        return score_line(rt, false, kind, Request::Opacity(float32(p[0])), p);
+        return score_line(rt, By::Points, kind, Request::Opacity(float32(p[0])), p);
     }
     Ok(false)
 }
 
 fn levels_called(rt: &impl Print, name: &[u8], p: &[u64; 11], kind: Kind) -> io::Result<bool> {
     if check::same(name, b"spans-levels") {
-        return score_line(rt, true, kind, Request::Levels(p[0] as usize), p);
+        return score_line(rt, By::Spans, kind, Request::Levels(p[0] as usize), p);
     }
     if check::same(name, b"points-levels") {
-        return score_line(rt, false, kind, Request::Levels(p[0] as usize), p);
+        return score_line(rt, By::Points, kind, Request::Levels(p[0] as usize), p);
     }
     Ok(false)
 }
@@ -160,13 +156,12 @@ fn sums_of(p: &[u64; 11]) -> ShapeSums {
 fn sweep_line(rt: &impl Print, p: &[u64; 11]) -> io::Result<bool> {
     let mut levels = [0.5f32; 70];
     fill_levels(&mut levels, p[2], p[3]);
-    let lent = p[1] as usize;
-    if 70 < lent {
+    let Some(lent) = levels.get(..p[1] as usize) else {
         return Ok(false);
-    }
+    };
     answer(
         rt,
-        grade::sweeps::alpha_sweep(sums_of(p), &levels[0..lent], p[0] as usize),
+        grade::sweeps::alpha_sweep(sums_of(p), lent, p[0] as usize),
     )?;
     Ok(true)
 }
@@ -189,24 +184,18 @@ fn levels_on(rt: &impl Print, bits: u32, levels: &mut [f32]) -> io::Result<()> {
 // BITS, LENT.
 fn levels_line(rt: &impl Print, p: &[u64; 11]) -> io::Result<bool> {
     let mut levels = [7.0f32; 70];
-    let lent = p[1] as usize;
-    if 70 < lent {
+    let Some(lent) = levels.get_mut(..p[1] as usize) else {
         return Ok(false);
-    }
-    levels_on(rt, bits32(p[0]), &mut levels[0..lent])?;
+    };
+    levels_on(rt, bits32(p[0]), lent)?;
     Ok(true)
 }
 
 // ---- lines
 
-fn shape_behind_colon(text: &[u8]) -> Asked {
-    let Some(colon) = scan::find(text, 0, b':') else {
-        return Asked::Nothing;
-    };
-    if text.len() - colon < 2 {
-        return Asked::Nothing;
-    }
-    shape(&text[colon + 2..])
+fn shape_behind_colon(text: &[u8]) -> Option<Kind> {
+    let colon = scan::find(text, 0, b':')?;
+    shape(text.get(colon + 2..)?)
 }
 
 fn named_line(
@@ -222,7 +211,7 @@ fn named_line(
     if n == 10 && check::same(name, b"sweep") {
         return sweep_line(rt, p);
     }
-    let Asked::Shape(kind) = shape_behind_colon(rest) else {
+    let Some(kind) = shape_behind_colon(rest) else {
         return Ok(false);
     };
     shape_line(rt, name, n, p, kind)
