@@ -1,41 +1,33 @@
 -- Laws: an answer is one line; how a number and an answer's bytes are made.
-use Rattle.std.specs.Prelude.{◌≡◌, List, ◌∷◌, ◌++◌, ℕ, suc, ◌+◌, ◌-◌, ◌/◌, ◌%◌, ◌^◌, ◌<◌, ◌≤◌, length, take, drop, set, replicate}
-use Rattle.std.proofs.Common.{sym, ap, ◌∙◌, subst, arith, pow-suc, length-set, length-take, length-drop, drop-cons, drop-set-lt, get_or-set_same, drop-drop}
-use Rattle.std.proofs.Math.Nat.{div-div-eq-div-mul, sub_self}
-use Rattle.std.proofs.Math.Seq.{drop-length}
+use Rattle.std.specs.Prelude.{◌≡◌, List, ◌∷◌, ◌++◌, ℕ, ◌+◌, ◌/◌, ◌%◌, length, take, drop, replicate}
+use Rattle.std.proofs.Common.{sym, ap, ◌∙◌, subst, arith}
+use Rattle.std.specs.Int.{w32, w64, to_be_bytes}
 use Rattle.frame.specs.declared.Values.{Values}
 use Rattle.frame.specs.declared.Answer.{Answer}
 use Rattle.frame.specs.declared.Answer.TheVariants.{Scored, Painted}
 use Rattle.lines.specs.Lines.{WriteLineSays}
 use Rattle.frame.specs.Frames.{big}
+use Rattle.frame.specs.FrameLaws.{big-length}
 use Rattle.frame.specs.Answers.{fields, answer_bytes, WriteAnswerSays}
 
 pub WriteAnswerSays-unique : (a : Answer) (old : List ℕ) (r s : ℕ) (after after' : List ℕ) → WriteAnswerSays a old r after
     → WriteAnswerSays a old s after' → (r ≡ s) × (after ≡ after')
 WriteAnswerSays-unique a old r s after after' p q = (p.count ∙ sym q.count, p.text ∙ sym q.text)
 
--- no byte yet, and a byte more, from the last to the first
-pub put-start : (out : List ℕ) (v : ℕ) → (v ≡ v / 256 ^ (length out - length out)) × (drop (length out) out ≡ big (length out - length out) v)
-put-start out v = rw sub_self (omega arith, drop-length out)
+-- the library's bytes of a number are the rule's
+pub four_of : (v : ℕ) → to_be_bytes w32 v ≡ big 4 v
+four_of v = let p : v % 256 ≡ v / 1 % 256 = omega arith in cc
 
-pub put_step : (out : List ℕ) (j k v rest : ℕ) → j < length out → rest ≡ v / 256 ^ k → drop (suc j) out ≡ big k v
-    → (rest / 256 ≡ v / 256 ^ suc k) × (drop j (set out j (rest % 256)) ≡ big (suc k) v)
-put_step out j k v rest h e f = (
-  ap (λ m. m / 256) e ∙ div-div-eq-div-mul v (256 ^ k) 256 ∙ ap (λ m. v / m) (sym (pow-suc 256 k)),
-  drop-cons (set out j (rest % 256)) j 0 (omega (arith, length-set out j (rest % 256)))
-      ∙ ap (λ m. m ∷ drop (suc j) (set out j (rest % 256))) (get_or-set_same out j (rest % 256) 0 h ∙ ap (λ m. m % 256) e)
-      ∙ ap (λ (l : List ℕ). v / 256 ^ k % 256 ∷ l) (drop-set-lt (suc j) out j (rest % 256) (omega arith) ∙ f),
-)
+pub eight_of : (v : ℕ) → to_be_bytes w64 v ≡ big 8 v
+eight_of v = let p : v % 256 ≡ v / 1 % 256 = omega arith in cc
 
--- a part that is a number came back
-pub put-part : (out part : List ℕ) (at n v : ℕ) → at + n ≤ length out → part ≡ big (length (take (at + n - at) (drop at out))) v
-    → take at out ++ (part ++ drop (at + n - at) (drop at out)) ≡ take at out ++ (big n v ++ drop (at + n) out)
-put-part out part at n v h e =
-    let m : at + n - at ≡ n = omega arith in
-    let size : length (take (at + n - at) (drop at out)) ≡ n = simp (length-take, length-drop) (omega arith) in
-    ap (λ (l : List ℕ). take at out ++ (l ++ drop (at + n - at) (drop at out))) (e ∙ ap (λ k. big k v) size)
-    ∙ ap (λ k. take at out ++ (big n v ++ drop k (drop at out))) m
-    ∙ ap (λ (l : List ℕ). take at out ++ (big n v ++ l)) (drop-drop n at out)
+-- a part that is a number
+pub put-part : (at n v : ℕ) (out part l : List ℕ) → part ≡ big n v → l ≡ take at out ++ (part ++ drop (at + length part) out)
+    → l ≡ take at out ++ (big n v ++ drop (at + n) out)
+put-part at n v out part l e f =
+    f
+    ∙ ap (λ (p : List ℕ). take at out ++ (p ++ drop (at + length p) out)) e
+    ∙ ap (λ k. take at out ++ (big n v ++ drop (at + k) out)) (big-length n v)
 
 -- ---- an answer's bytes, field by field
 abbrev placed : ℕ → ℕ → ℕ → List ℕ → List ℕ

@@ -1,21 +1,18 @@
 -- Laws: two requests do not share a frame; what the parts of a frame give, and when no request fits.
-use Rattle.std.specs.Prelude.{◌≡◌, refl, cond, List, [], ◌∷◌, ◌++◌, ◌⊎◌, ℕ, zero, suc, ◌+◌, ◌-◌, ◌*◌, ◌/◌, ◌%◌, ◌^◌, ◌<◌, ◌≤◌, ltb, eqb, ℤ, pos, negsuc, ◌-ℤ◌, length, take, drop, get_or}
-use Rattle.std.proofs.Common.{sym, ap, ◌∙◌, inl, inr, ⊎_elim, arith, mod-eq_of_lt, lt-ltb, le-ltb, to_z, of_z, SFits, length-drop, drop_of_length-le, get_or-drop}
+use Rattle.std.specs.Prelude.{◌≡◌, refl, cond, Option, Some, None, List, [], ◌∷◌, ◌++◌, ◌⊎◌, ℕ, zero, suc, ◌+◌, ◌-◌, ◌*◌, ◌/◌, ◌%◌, ◌^◌, ◌<◌, ◌≤◌, ltb, eqb, ℤ, pos, negsuc, length, take, drop, get_or}
+use Rattle.std.proofs.Common.{sym, ap, ◌∙◌, inl, inr, ⊎_elim, arith, mod-eq_of_lt, lt-ltb, le-ltb, length-drop, drop_of_length-le, get_or-drop}
 use Rattle.std.proofs.Math.Nat.{one-le-pow, pow-succ'}
 use Rattle.std.proofs.Math.Arith.{mod-mul}
-use Rattle.std.specs.Int.{w32}
-use Rattle.std.proofs.lemmas.Int.{to_z_pos, to_z-of_z}
 use Rattle.cover.specs.declared.Kind.{Kind}
 use Rattle.cover.specs.declared.Kind.TheVariants.{Circle, Triangle, Quad}
 use Rattle.cover.specs.Cover.{places}
-use Rattle.frame.specs.declared.Frame.{Frame}
+use Rattle.refusal.specs.Outcomes.{Outcome, Done}
+use Rattle.frame.specs.declared.Request as code
 use Rattle.lines.specs.Hex.{Each, Byte}
 use Rattle.lines.specs.HexLaws.{each_of}
 use Rattle.lines.specs.PlaceLaws.{from, from_place}
 use Rattle.frame.specs.Frames.{big, twos, coordinates, Short, Request, new, row, score, paint, number, frame, Shaped, Fitting, Asks, decoded, DecodeSays}
-use Rattle.frame.specs.declared.Shape.{Shape}
-use Rattle.frame.specs.declared.Shape.TheVariants.{Of, Unknown}
-use Rattle.frame.specs.Inside.{Coordinate, Held, KindIn, OpacityIn, ShapeIn, ShapeFound}
+use Rattle.frame.specs.Inside.{Held, KindIn, OpacityIn, ShapeIn, ShapeFound}
 
 -- ---- big-endian numbers
 -- the number that bytes are the digits of
@@ -123,8 +120,8 @@ frame_injective p q f g e = sym (request_from_lem p f) ∙ ap request_from e ∙
 pub asks_unique : {bytes : List ℕ} {p q : Request} → Asks bytes p → Asks bytes q → p ≡ q
 asks_unique {p = p} {q = q} a b = frame_injective p q a.fitting b.fitting (sym a.same ∙ b.same)
 
-pub DecodeSays-unique : (bytes : List ℕ) (r s : Frame) → DecodeSays bytes r → DecodeSays bytes s → r ≡ s
-DecodeSays-unique bytes r s (DecodeSays.asked p a e) (DecodeSays.asked q b f) = e ∙ ap decoded (asks_unique a b) ∙ sym f
+pub DecodeSays-unique : (bytes : List ℕ) (r s : Outcome code.Request) → DecodeSays bytes r → DecodeSays bytes s → r ≡ s
+DecodeSays-unique bytes r s (DecodeSays.asked p a e) (DecodeSays.asked q b f) = e ∙ ap (λ q. Done (decoded q)) (asks_unique a b) ∙ sym f
 DecodeSays-unique bytes r s (DecodeSays.asked p a e) (DecodeSays.refused n f) = absurd (n p a)
 DecodeSays-unique bytes r s (DecodeSays.refused n e) (DecodeSays.asked q b f) = absurd (n q b)
 DecodeSays-unique bytes r s (DecodeSays.refused n e) (DecodeSays.refused m f) = e ∙ sym f
@@ -251,50 +248,15 @@ module _ (bytes : List ℕ) where
   no_shape l f (score k o) a = f k o (record { shaped = a.fitting; same = ap (drop 1) a.same })
   no_shape l f (paint k o) a = f k o (record { shaped = a.fitting; same = ap (drop 1) a.same })
 
--- ---- numbers from their bytes
-pub four_bytes : (a b c d : ℕ) → a < 256 → b < 256 → c < 256 → d < 256 → big 4 (((a * 256 + b) * 256 + c) * 256 + d) ≡ a ∷ b ∷ c ∷ d ∷ []
-four_bytes a b c d ha hb hc hd =
-    let v : ℕ = ((a * 256 + b) * 256 + c) * 256 + d in
-    let p : v / 16777216 % 256 ≡ a = omega arith in
-    let q : v / 65536 % 256 ≡ b = omega arith in
-    let r : v / 256 % 256 ≡ c = omega arith in
-    let s : v / 1 % 256 ≡ d = omega arith in
-    cc
-
-two_bytes : (h l : ℕ) → h < 256 → l < 256 → big 2 (h * 256 + l) ≡ h ∷ l ∷ []
-two_bytes h l hh hl =
-    let p : (h * 256 + l) / 256 % 256 ≡ h = omega arith in
-    let q : (h * 256 + l) / 1 % 256 ≡ l = omega arith in
-    cc
-
-module _ (h l : ℕ) (hh : h < 256) (hl : l < 256) where
-  pub coordinate_low : h * 256 + l < 32768 → Coordinate h l (to_z w32 (h * 256 + l))
-  coordinate_low b = rw (to_z_pos w32 (h * 256 + l) (omega arith)) (record { short = b; two = two_bytes h l hh hl })
-
-  less : to_z w32 (h * 256 + l) -ℤ pos 65536 ≡ negsuc (65535 - (h * 256 + l))
-  less =
-      let e : 65536 - suc (h * 256 + l) ≡ 65535 - (h * 256 + l) = omega arith in
-      ap (λ z. z -ℤ pos 65536) (to_z_pos w32 (h * 256 + l) (omega arith))
-      ∙ ap (λ t. cond t (negsuc (65536 - suc (h * 256 + l))) (pos (h * 256 + l - 65536))) (lt-ltb (h * 256 + l) 65536 (omega arith))
-      ∙ ap negsuc e
-
-  pub less_fits : SFits w32 (to_z w32 (h * 256 + l) -ℤ pos 65536)
-  less_fits = rw less (record { sfits = omega arith })
-
-  pub coordinate_high : 32768 ≤ h * 256 + l → Coordinate h l (to_z w32 (of_z w32 (to_z w32 (h * 256 + l) -ℤ pos 65536)))
-  coordinate_high b =
-      let back : 65535 - (65535 - (h * 256 + l)) ≡ h * 256 + l = omega arith in
-      rw (to_z-of_z w32 (to_z w32 (h * 256 + l) -ℤ pos 65536) less_fits, less)
-      (record { short = omega arith; two = ap (big 2) back ∙ two_bytes h l hh hl })
-
 -- ---- a shape that was looked for
-pub shape_some : {bytes : List ℕ} {r : Shape} (k : Kind) (o : ℕ) → ShapeFound bytes r → r ≡ Of k o → ShapeIn bytes k o
+pub shape_some : {bytes : List ℕ} {r : Option (Kind × ℕ)} (k : Kind) (o : ℕ) → ShapeFound bytes r → r ≡ Some (k, o) → ShapeIn bytes k o
 shape_some {bytes} k o (ShapeFound.found j p s e) f =
-    let a : j ≡ k = cc in
-    let b : p ≡ o = cc in
+    let g : (j, p) ≡ (k, o) = cc in
+    let a : j ≡ k = ap (λ (x : Kind × ℕ). x.0) g in
+    let b : p ≡ o = ap (λ (x : Kind × ℕ). x.1) g in
     rw (a, b) at s
 shape_some k o (ShapeFound.unknown n e) f = let z : ◌≡◌ {A = ℕ} 0 1 = cc in absurd (omega arith)
 
-pub shape-none : {bytes : List ℕ} {r : Shape} → ShapeFound bytes r → r ≡ Unknown → (k : Kind) (o : ℕ) → ShapeIn bytes k o → ⊥
+pub shape-none : {bytes : List ℕ} {r : Option (Kind × ℕ)} → ShapeFound bytes r → r ≡ None → (k : Kind) (o : ℕ) → ShapeIn bytes k o → ⊥
 shape-none (ShapeFound.found j p s e) f = let z : ◌≡◌ {A = ℕ} 0 1 = cc in absurd (omega arith)
 shape-none (ShapeFound.unknown n e) f = n

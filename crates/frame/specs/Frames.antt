@@ -1,10 +1,12 @@
 -- Rules: document 01, "The program": the frames of requests, and decoding as their inverse.
-use Rattle.std.specs.Prelude.{◌≡◌, List, [], ◌∷◌, ◌++◌, ℕ, zero, suc, ◌-◌, ◌/◌, ◌%◌, ◌^◌, ◌<◌, ◌≤◌, ℤ, pos, negsuc, length, replicate}
+use Rattle.std.specs.Prelude.{◌≡◌, Ok, Err, List, [], ◌∷◌, ◌++◌, ℕ, zero, suc, ◌-◌, ◌/◌, ◌%◌, ◌^◌, ◌<◌, ◌≤◌, ℤ, pos, negsuc, length, replicate}
 use Rattle.cover.specs.declared.Kind.{Kind}
 use Rattle.cover.specs.declared.Kind.TheVariants.{Circle, Triangle, Quad}
 use Rattle.cover.specs.Cover.{places}
-use Rattle.frame.specs.declared.Frame.{Frame}
-use Rattle.frame.specs.declared.Frame.TheVariants.{New, Row, Score, Paint, Bad}
+use Rattle.refusal.specs.declared.Refusal.TheVariants.{Malformed}
+use Rattle.refusal.specs.Outcomes.{Outcome, Done, Refused}
+use Rattle.frame.specs.declared.Request as code
+use Rattle.frame.specs.declared.Request.TheVariants.{New, Row, Score, Paint}
 use Rattle.frame.specs.declared.Read.{Read}
 use Rattle.lines.specs.declared.Line.{Line}
 use Rattle.lines.specs.Hex.{malformed, Each, Byte, Spells}
@@ -71,23 +73,23 @@ pub record LineAsks (line : List ℕ) (q : Request) : Type 0 where
   pub spells : Spells line (frame q)
 
 -- the decoded frame. The pixels of a row stay with the bytes, from the third on; it has their count
-abbrev pub decoded : Request → Frame
+abbrev pub decoded : Request → code.Request
 decoded (new w h r g b) = New w h r g b
 decoded (row y pixels) = Row y (length pixels)
 decoded (score kind opacity) = Score kind opacity
 decoded (paint kind opacity) = Paint kind opacity
 
 -- A frame gives a request or a refusal number, never both: the request that the bytes ask for, and the number exactly where they ask for none
-pub data DecodeSays (bytes : List ℕ) (r : Frame) : Type 0 where
-  asked : (q : Request) → Asks bytes q → r ≡ decoded q → DecodeSays bytes r
-  refused : ((q : Request) → Asks bytes q → ⊥) → r ≡ Bad malformed → DecodeSays bytes r
+pub data DecodeSays (bytes : List ℕ) (r : Outcome code.Request) : Type 0 where
+  asked : (q : Request) → Asks bytes q → r ≡ Done (decoded q) → DecodeSays bytes r
+  refused : ((q : Request) → Asks bytes q → ⊥) → r ≡ Refused malformed → DecodeSays bytes r
 
 -- the same of a line, with the bytes beside the frame, and zeros after them up to the longest frame's 50
 abbrev pub read_as : Request → Read
-read_as q = record { frame = decoded q; bytes = frame q ++ replicate (50 - length (frame q)) 0 }
+read_as q = record { frame = Ok (decoded q); bytes = frame q ++ replicate (50 - length (frame q)) 0 }
 
 abbrev pub unread : Read
-unread = record { frame = Bad malformed; bytes = replicate 50 0 }
+unread = record { frame = Err Malformed; bytes = replicate 50 0 }
 
 pub data ReadFrameSays (line : List ℕ) (r : Read) : Type 0 where
   asked : (q : Request) → LineAsks line q → r ≡ read_as q → ReadFrameSays line r

@@ -1,9 +1,7 @@
 -- Rules: what the functions inside the crate promise one another.
-use Rattle.std.specs.Prelude.{◌≡◌, List, [], ◌∷◌, ℕ, ◌+◌, ℤ, length, drop, get_or}
+use Rattle.std.specs.Prelude.{◌≡◌, Option, Some, None, List, [], ◌∷◌, ℕ, ◌+◌, ℤ, length, drop, get_or}
 use Rattle.cover.specs.declared.Kind.{Kind}
 use Rattle.cover.specs.Cover.{places}
-use Rattle.frame.specs.declared.Shape.{Shape}
-use Rattle.frame.specs.declared.Shape.TheVariants.{Of, Unknown}
 use Rattle.frame.specs.Frames.{big, twos, Short, number, shape, Shaped}
 
 -- ---- shapes
@@ -32,6 +30,6 @@ pub record ShapeIn (bytes : List ℕ) (kind : Kind) (opacity : ℕ) : Type 0 whe
   pub shaped : Shaped kind opacity
   pub same : drop 1 bytes ≡ shape kind opacity
 
-pub data ShapeFound (bytes : List ℕ) (r : Shape) : Type 0 where
-  found : (kind : Kind) (opacity : ℕ) → ShapeIn bytes kind opacity → r ≡ Of kind opacity → ShapeFound bytes r
-  unknown : ((kind : Kind) (opacity : ℕ) → ShapeIn bytes kind opacity → ⊥) → r ≡ Unknown → ShapeFound bytes r
+pub data ShapeFound (bytes : List ℕ) (r : Option (Kind × ℕ)) : Type 0 where
+  found : (kind : Kind) (opacity : ℕ) → ShapeIn bytes kind opacity → r ≡ Some (kind, opacity) → ShapeFound bytes r
+  unknown : ((kind : Kind) (opacity : ℕ) → ShapeIn bytes kind opacity → ⊥) → r ≡ None → ShapeFound bytes r

@@ -1,18 +1,16 @@
 -- Laws: a line asks for at most one request; reading it is decoding its digits and then its bytes.
-use Rattle.std.specs.Prelude.{◌≡◌, refl, List, ◌++◌, ℕ, zero, suc, ◌-◌, ◌<◌, ◌≤◌, true, false, length, take, drop, replicate}
+use Rattle.std.specs.Prelude.{◌≡◌, refl, Ok, List, ◌++◌, ℕ, zero, suc, ◌-◌, ◌<◌, ◌≤◌, true, false, length, take, drop, replicate}
 use Rattle.std.proofs.Common.{sym, ap, ◌∙◌, subst, ⊎_elim, arith, lt-ltb, le-ltb, le-leb, take_at}
 use Rattle.std.proofs.lemmas.Bool.{lt-leb}
 use Rattle.std.proofs.Math.Nat.{sub-zero}
 use Rattle.cover.specs.declared.Kind.{Kind}
 use Rattle.cover.specs.declared.Kind.TheVariants.{Circle, Triangle, Quad}
 use Rattle.cover.specs.Cover.{places}
-use Rattle.lines.specs.declared.Digits.{Digits}
-use Rattle.lines.specs.declared.Digits.TheVariants as digits
-use Rattle.frame.specs.declared.Frame.{Frame}
-use Rattle.frame.specs.declared.Frame.TheVariants.{Bad}
+use Rattle.refusal.specs.Outcomes.{Outcome, Done, Refused}
+use Rattle.frame.specs.declared.Request as code
 use Rattle.frame.specs.declared.Read.{Read}
 use Rattle.lines.specs.declared.Line.{Line}
-use Rattle.lines.specs.Hex.{malformed, Spells, over, DecodeHexSays}
+use Rattle.lines.specs.Hex.{Spells, over, DecodeHexSays}
 use Rattle.lines.specs.HexLaws.{below_or_not, spells_unique, spells-length}
 use Rattle.lines.specs.Lines.{Told, whole, too_long, told, heard}
 use Rattle.frame.specs.Frames.{Request, new, row, score, paint, frame, decoded, Fitting, LineAsks, DecodeSays, read_as, unread, ReadFrameSays, ReadsTold, ReadLineSays}
@@ -47,13 +45,13 @@ pub record Spelled (line old after : List ℕ) (n : ℕ) : Type 0 where
   pub room : n ≤ length old
   pub text : after ≡ over old bytes
 
-pub spelled : {line old after : List ℕ} {r : Digits} (n : ℕ) → DecodeHexSays line old r after → r ≡ digits.Bytes n → Spelled line old after n
+pub spelled : {line old after : List ℕ} {r : Outcome ℕ} (n : ℕ) → DecodeHexSays line old r after → r ≡ Done n → Spelled line old after n
 spelled n (DecodeHexSays.spelled bytes s l e f) h =
     let p : length bytes ≡ n = cc in
     record { bytes = bytes; spells = s; count = p; room = omega arith; text = f }
 spelled n (DecodeHexSays.refused none e f) h = let z : ◌≡◌ {A = ℕ} 0 1 = cc in absurd (omega arith)
 
-pub not-spelled : {line old after : List ℕ} {r : Digits} (k : ℕ) → DecodeHexSays line old r after → r ≡ digits.Bad k
+pub not-spelled : {line old after : List ℕ} {r : Outcome ℕ} (k : ℕ) → DecodeHexSays line old r after → r ≡ Refused k
     → (bytes : List ℕ) → Spells line bytes → length bytes ≤ length old → ⊥
 not-spelled k (DecodeHexSays.spelled bytes s l e f) h = let z : ◌≡◌ {A = ℕ} 0 1 = cc in absurd (omega arith)
 not-spelled k (DecodeHexSays.refused none e f) h = none
@@ -74,16 +72,16 @@ drop-zeros (suc n) (suc m) h =
 
 module _ {line after : List ℕ} {n : ℕ} (s : Spelled line (replicate 50 0) after n) where
   -- the part of the buffer that is decoded
-  pub spelled-part : take (n - 0) after ≡ s.bytes
+  pub spelled-part : take n after ≡ s.bytes
   spelled-part =
-      ap (λ k. take k after) (sub-zero n)
-      ∙ ap (take n) s.text
+      ap (take n) s.text
       ∙ take_at s.bytes (drop (length s.bytes) (replicate 50 0)) n s.count
 
-  pub read_asked : (f : Frame) → DecodeSays (take (n - 0) after) f → (f ≡ Bad malformed → ⊥) → ReadFrameSays line (record { frame = f; bytes = after })
-  read_asked f (DecodeSays.refused none e) h = absurd (h e)
-  read_asked f (DecodeSays.asked q a e) h =
-      ReadFrameSays.asked q (record { fitting = a.fitting; spells = subst (Spells line) same s.spells }) (cc text)
+  pub read_asked : (f : code.Request) → DecodeSays (take n after) (Done f) → ReadFrameSays line (record { frame = Ok f; bytes = after })
+  read_asked f (DecodeSays.refused none e) = let z : ◌≡◌ {A = ℕ} 0 1 = cc in absurd (omega arith)
+  read_asked f (DecodeSays.asked q a e) =
+      let g : f ≡ decoded q = cc in
+      ReadFrameSays.asked q (record { fitting = a.fitting; spells = subst (Spells line) same s.spells }) (cc (g, text))
     where
       same : s.bytes ≡ frame q
       same = sym spelled-part ∙ a.same
@@ -94,16 +92,10 @@ module _ {line after : List ℕ} {n : ℕ} (s : Spelled line (replicate 50 0) af
           ∙ ap (over (zeros 50)) same
           ∙ ap (λ (l : List ℕ). frame q ++ l) (drop-zeros (length (frame q)) 50 (frame_most q a.fitting))
 
-  pub read-refused : (f : Frame) (k : ℕ) → DecodeSays (take (n - 0) after) f → f ≡ Bad k → ReadFrameSays line unread
-  read-refused f k (DecodeSays.refused none e) h =
+  pub read-refused : (k : ℕ) → DecodeSays (take n after) (Refused k) → ReadFrameSays line unread
+  read-refused k (DecodeSays.refused none e) =
       ReadFrameSays.refused (λ q a. none q (record { fitting = a.fitting; same = spelled-part ∙ spells_unique s.spells a.spells })) refl
-  read-refused f k (DecodeSays.asked q a e) h = not_bad q (sym e ∙ h)
-    where
-      not_bad : (q : Request) → decoded q ≡ Bad k → ReadFrameSays line unread
-      not_bad (new w h r g b) e = let z : ◌≡◌ {A = ℕ} 0 1 = cc in absurd (omega arith)
-      not_bad (row y pixels) e = let z : ◌≡◌ {A = ℕ} 0 1 = cc in absurd (omega arith)
-      not_bad (score k o) e = let z : ◌≡◌ {A = ℕ} 0 1 = cc in absurd (omega arith)
-      not_bad (paint k o) e = let z : ◌≡◌ {A = ℕ} 0 1 = cc in absurd (omega arith)
+  read-refused k (DecodeSays.asked q a e) = let z : ◌≡◌ {A = ℕ} 0 1 = cc in absurd (omega arith)
 
 -- ---- the line that a reader holds
 told_unique : (t : Told) (r s : Read) → ReadsTold t r → ReadsTold t s → r ≡ s
@@ -121,10 +113,10 @@ pub read_past : (line : Line) (text : List ℕ) (r : Read) → line.over ≡ fal
 unfolding heard
 read_past line text r e h f = simp (e, lt-ltb (length text) line.held h) f
 
-pub read_held : (line : Line) (text : List ℕ) (r : Read) → line.over ≡ false → line.held ≤ length text → ReadFrameSays (take (line.held - 0) text) r
+pub read_held : (line : Line) (text : List ℕ) (r : Read) → line.over ≡ false → line.held ≤ length text → ReadFrameSays (take line.held text) r
     → ReadLineSays line text r
 unfolding heard
-read_held line text r e h f = simp (e, le-ltb (length text) line.held h) (rw sub-zero at f)
+read_held line text r e h f = simp (e, le-ltb (length text) line.held h) f
 
 -- with room for 100 digits, a line that is told is read as that line, too long or not
 pub told_reads : (room : ℕ) (line : List ℕ) (r : Read) → 100 ≤ room → ReadsTold (told room line) r → ReadFrameSays line r

@@ -1,13 +1,11 @@
 -- Rules: the state before the first frame, and what a decoded frame asks for, by value.
-use Rattle.std.specs.Prelude.{◌≡◌, false, List, ℕ, ◌+◌, ◌≤◌, length, take, drop}
-use Rattle.frame.specs.declared.Frame.{Frame}
-use Rattle.frame.specs.declared.Frame.TheVariants as frame
+use Rattle.std.specs.Prelude.{◌≡◌, false, Result, List, ℕ, ◌+◌, ◌≤◌, length, take, drop}
+use Rattle.refusal.specs.declared.Refusal.{Refusal}
+use Rattle.refusal.specs.Outcomes.{Outcome, outcome}
+use Rattle.frame.specs.declared.Request.{Request}
+use Rattle.frame.specs.declared.Request.TheVariants.{New, Row, Score, Paint}
 use Rattle.frame.specs.Frames as frames
 use Rattle.held.specs.declared.State.{State}
-use Rattle.held.specs.declared.Request.{Request}
-use Rattle.held.specs.declared.Request.TheVariants.{New, Row, Score, Paint}
-use Rattle.held.specs.declared.Asked.{Asked}
-use Rattle.held.specs.declared.Asked.TheVariants.{Of, Bad}
 
 -- no picture is held as width 0
 abbrev pub no_picture : State
@@ -28,16 +26,12 @@ Carried (Score kind opacity) bytes = Unit {0}
 Carried (Paint kind opacity) bytes = Unit {0}
 
 -- a decoded frame is a request or a refusal number
-abbrev pub asked_of : Frame → Asked
-asked_of (frame.New w h r g b) = Of (New w h r g b)
-asked_of (frame.Row y n) = Of (Row y n)
-asked_of (frame.Score kind opacity) = Of (Score kind opacity)
-asked_of (frame.Paint kind opacity) = Of (Paint kind opacity)
-asked_of (frame.Bad k) = Bad k
+abbrev pub asked_of : Result Request Refusal → Outcome Request
+asked_of f = outcome f
 
 -- ---- the promises
 abbrev pub StartSays : State → Type 0
 StartSays r = r ≡ no_picture
 
-abbrev pub AskSays : Frame → Asked → Type 0
+abbrev pub AskSays : Result Request Refusal → Outcome Request → Type 0
 AskSays f r = r ≡ asked_of f

@@ -1,7 +1,6 @@
 -- Rules: document 01, "The program": bytes as hexadecimal digits, two a byte, capitals out and either case in.
 use Rattle.std.specs.Prelude.{◌≡◌, ◌&&◌, cond, List, [], ◌∷◌, ◌++◌, map, ℕ, ◌+◌, ◌-◌, ◌/◌, ◌%◌, ◌<◌, ◌≤◌, ltb, leb, length, drop}
-use Rattle.lines.specs.declared.Digits.{Digits}
-use Rattle.lines.specs.declared.Digits.TheVariants.{Bytes, Bad}
+use Rattle.refusal.specs.Outcomes.{Outcome, Done, Refused}
 
 -- the number of a malformed line
 abbrev pub malformed : ℕ
@@ -39,8 +38,8 @@ abbrev pub over : List ℕ → List ℕ → List ℕ
 over old new = new ++ drop (length new) old
 
 -- the bytes that a line spells, where the lent buffer has room for them; else the number of a malformed line, and nothing is written
-pub data DecodeHexSays (line old : List ℕ) (r : Digits) (after : List ℕ) : Type 0 where
-  spelled : (bytes : List ℕ) → Spells line bytes → length bytes ≤ length old → r ≡ Bytes (length bytes)
+pub data DecodeHexSays (line old : List ℕ) (r : Outcome ℕ) (after : List ℕ) : Type 0 where
+  spelled : (bytes : List ℕ) → Spells line bytes → length bytes ≤ length old → r ≡ Done (length bytes)
       → after ≡ over old bytes → DecodeHexSays line old r after
-  refused : ((bytes : List ℕ) → Spells line bytes → length bytes ≤ length old → ⊥) → r ≡ Bad malformed
+  refused : ((bytes : List ℕ) → Spells line bytes → length bytes ≤ length old → ⊥) → r ≡ Refused malformed
       → after ≡ old → DecodeHexSays line old r after

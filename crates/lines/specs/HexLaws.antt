@@ -1,14 +1,15 @@
 -- Laws: digits and the bytes that they spell; what a line spells is one list of bytes.
-use Rattle.std.specs.Prelude.{◌≡◌, refl, ◌⊎◌, ℕ, zero, suc, ◌+◌, ◌-◌, ◌*◌, ◌/◌, ◌%◌, ◌<◌, ◌≤◌, length, take, drop, set, get_or, ltb}
+use Rattle.std.specs.Prelude.{◌≡◌, refl, ◌⊎◌, Option, Some, None, ℕ, zero, suc, ◌+◌, ◌-◌, ◌*◌, ◌/◌, ◌%◌, ◌<◌, ◌≤◌, length, take, drop, set, get_or, ltb}
 use Rattle.std.proofs.Common.{sym, ap, ◌∙◌, subst, inl, inr, ⊎_elim, arith, take-suc, take-suc-set, add-one, lt-ltb, le-ltb, le-leb, ltb-true, ltb-false}
 use mathlib.Core.List.{List, [], ◌∷◌, ◌++◌, map, append_assoc, head-eq_of_cons-eq, tail-eq_of_cons-eq}
 use Rattle.std.proofs.lemmas.List.{length-map}
 use Rattle.std.proofs.Math.ListN.{get_or-map, get_or-append}
 use Rattle.std.proofs.Math.Numerals.{add-two}
 use Rattle.std.proofs.lemmas.Bool.{lt-leb}
+use Rattle.std.specs.Prelude.{IsSome, is_some, true, false}
 use Rattle.laws.specs.Bools.{true_or_false}
-use Rattle.lines.specs.declared.Digits.{Digits}
-use Rattle.lines.specs.declared.Digits.TheVariants.{Bytes}
+use Rattle.laws.specs.Fit.{no_both}
+use Rattle.refusal.specs.Outcomes.{Outcome, Done}
 use Rattle.lines.specs.Hex.{Each, Byte, digit, hex_of, capital, Spells, DecodeHexSays}
 use Rattle.lines.specs.Inside.{DigitOf, IsDigit, AllDigits, SpelledBy}
 
@@ -61,23 +62,23 @@ digit_injective m n e =
     (digit_is_lem m)
 
 -- ---- the value of a digit
-digit_value : (c r : ℕ) → r < 16 → capital c ≡ digit r → DigitOf c r
-digit_value c r h e = record { most = omega arith; value = λ _. e; only = λ n l f. digit_injective r n (sym e ∙ f) }
+digit_value : (c r : ℕ) → r < 16 → capital c ≡ digit r → DigitOf c (Some r)
+digit_value c r h e = record { value = λ d f. (let k : r ≡ d = cc in (omega (arith, h, k), e ∙ ap digit k)); only = λ n l f. ap Some (digit_injective r n (sym e ∙ f)) }
 
-pub digit_number : (c : ℕ) → 48 ≤ c → c ≤ 57 → DigitOf c (c - 48)
+pub digit_number : (c : ℕ) → 48 ≤ c → c ≤ 57 → DigitOf c (Some (c - 48))
 digit_number c h k =
     let e : digit (c - 48) ≡ 48 + (c - 48) = digit_low (c - 48) (omega arith) in
     digit_value c (c - 48) (omega arith) (capital_below c (omega arith) ∙ omega arith)
 
-pub digit_capital : (c : ℕ) → 65 ≤ c → c ≤ 70 → DigitOf c (c - 55)
+pub digit_capital : (c : ℕ) → 65 ≤ c → c ≤ 70 → DigitOf c (Some (c - 65 + 10))
 digit_capital c h k =
-    let e : digit (c - 55) ≡ 55 + (c - 55) = digit_high (c - 55) (omega arith) in
-    digit_value c (c - 55) (omega arith) (capital_below c (omega arith) ∙ omega arith)
+    let e : digit (c - 65 + 10) ≡ 55 + (c - 65 + 10) = digit_high (c - 65 + 10) (omega arith) in
+    digit_value c (c - 65 + 10) (omega arith) (capital_below c (omega arith) ∙ omega arith)
 
-pub digit_small : (c : ℕ) → 97 ≤ c → c ≤ 102 → DigitOf c (c - 87)
+pub digit_small : (c : ℕ) → 97 ≤ c → c ≤ 102 → DigitOf c (Some (c - 97 + 10))
 digit_small c h k =
-    let e : digit (c - 87) ≡ 55 + (c - 87) = digit_high (c - 87) (omega arith) in
-    digit_value c (c - 87) (omega arith) (capital-small c h (omega arith) ∙ omega arith)
+    let e : digit (c - 97 + 10) ≡ 55 + (c - 97 + 10) = digit_high (c - 97 + 10) (omega arith) in
+    digit_value c (c - 97 + 10) (omega arith) (capital-small c h (omega arith) ∙ omega arith)
 
 -- a digit's character lies in one of the three ranges
 digit_where : (c n : ℕ) → n < 16 → capital c ≡ digit n → ((48 ≤ c) × (c ≤ 57)) ⊎ (((65 ≤ c) × (c ≤ 70)) ⊎ ((97 ≤ c) × (c ≤ 102)))
@@ -97,17 +98,25 @@ digit_where c n h e =
     (below_or_not c 123))
     (below_or_not c 97)
 
-pub digit_none : (c : ℕ) → ((48 ≤ c) × (c ≤ 57) → ⊥) → ((65 ≤ c) × (c ≤ 70) → ⊥) → ((97 ≤ c) × (c ≤ 102) → ⊥) → DigitOf c 16
+pub digit_none : (c : ℕ) → ((48 ≤ c) × (c ≤ 57) → ⊥) → ((65 ≤ c) × (c ≤ 70) → ⊥) → ((97 ≤ c) × (c ≤ 102) → ⊥) → DigitOf c None
 digit_none c f g k =
     record {
-      most = omega arith;
-      value = λ h. absurd (omega arith);
+      value = λ d f. absurd (cc);
       only = λ n l e. ⊎_elim (λ d. absurd (f d)) (⊎_elim (λ d. absurd (g d)) (λ d. absurd (k d))) (digit_where c n l e);
     }
 
--- a digit's value is below 16
-pub digit_value_below : {c r : ℕ} → DigitOf c r → IsDigit c → r < 16
-digit_value_below {c} {r} d i = omega (arith, i.1, d.only i.0 i.1 i.2)
+-- a digit has a value
+pub digit_some : {c : ℕ} {r : Option ℕ} → DigitOf c r → IsDigit c → IsSome r
+digit_some {r = Some d} o i = refl
+digit_some {r = None} o i = let f = o.only i.0 i.1 i.2 in absurd (cc)
+
+pub digit_none_is : {c : ℕ} {r : Option ℕ} → DigitOf c r → is_some r ≡ false → IsDigit c → ⊥
+digit_none_is {r = Some d} o e i = no_both refl e
+digit_none_is {r = None} o e i = let f = o.only i.0 i.1 i.2 in cc
+
+pub digit_some_is : {c : ℕ} {r : Option ℕ} → DigitOf c r → is_some r ≡ true → IsDigit c
+digit_some_is {r = Some d} o e = let v = o.value d refl in (d, v.0, v.1)
+digit_some_is {r = None} o e = absurd (no_both e refl)
 
 -- ---- the digits of bytes
 pub hex_length : (bytes : List ℕ) → length (hex_of bytes) ≡ length bytes + length bytes
@@ -182,7 +191,7 @@ fill_step line out i at h l in-out in-line hh hl eh el e =
 
 -- the bytes of a line, written over the front of a lent buffer
 pub decodes : (line old new after : List ℕ) (n : ℕ) → after ≡ new ++ drop n old → length new ≡ n → 0 < n → n ≤ length old
-    → ((k : ℕ) → get_or after k 0 < 256) → SpelledBy line new → DecodeHexSays line old (Bytes n) after
+    → ((k : ℕ) → get_or after k 0 < 256) → SpelledBy line new → DecodeHexSays line old (Done n) after
 decodes line old new after n f e some room below s =
     DecodeHexSays.spelled new
     (record {
@@ -191,13 +200,13 @@ decodes line old new after n f e some room below s =
       digits = s;
     })
     (omega arith)
-    (ap Bytes (sym e))
+    (ap Done (sym e))
     (f ∙ ap (λ m. new ++ drop m old) (sym e))
 
 pub spells_unique : {line a b : List ℕ} → Spells line a → Spells line b → a ≡ b
 spells_unique {a = a} {b = b} s t = hex_injective a b (sym s.digits ∙ t.digits)
 
-pub DecodeHexSays-unique : (line old : List ℕ) (r s : Digits) (after after' : List ℕ) → DecodeHexSays line old r after
+pub DecodeHexSays-unique : (line old : List ℕ) (r s : Outcome ℕ) (after after' : List ℕ) → DecodeHexSays line old r after
     → DecodeHexSays line old s after' → (r ≡ s) × (after ≡ after')
 DecodeHexSays-unique line old r s after after' (DecodeHexSays.spelled a p l e f) (DecodeHexSays.spelled b q m g h) =
     let same : a ≡ b = spells_unique p q in

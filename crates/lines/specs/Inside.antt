@@ -1,12 +1,11 @@
 -- Rules: what the functions inside the crate promise one another about digits.
-use Rattle.std.specs.Prelude.{◌≡◌, Bool, true, false, List, map, ℕ, ◌<◌, ◌≤◌, length, get_or}
+use Rattle.std.specs.Prelude.{◌≡◌, Bool, true, false, Option, Some, List, map, ℕ, ◌<◌, length, get_or}
 use Rattle.lines.specs.Hex.{digit, capital, hex_of}
 
--- the value of a digit in either case, 16 for any other character
-pub record DigitOf (c r : ℕ) : Type 0 where
-  pub most : r ≤ 16
-  pub value : r < 16 → capital c ≡ digit r
-  pub only : (n : ℕ) → n < 16 → capital c ≡ digit n → r ≡ n
+-- the value of a digit in either case
+pub record DigitOf (c : ℕ) (r : Option ℕ) : Type 0 where
+  pub value : (d : ℕ) → r ≡ Some d → (d < 16) × (capital c ≡ digit d)
+  pub only : (n : ℕ) → n < 16 → capital c ≡ digit n → r ≡ Some n
 
 abbrev pub IsDigit : ℕ → Type 0
 IsDigit c = (n : ℕ) × (n < 16) × (capital c ≡ digit n)

@@ -1,5 +1,5 @@
 -- Laws: the rules of lines and digits computed at small inputs, by hand and by document 01's sentences.
-use Rattle.std.specs.Prelude.{◌≡◌, refl, List, [], ◌∷◌, map}
+use Rattle.std.specs.Prelude.{◌≡◌, refl, [], ◌∷◌, map}
 use Rattle.lines.specs.Hex.{digit, capital, hex_of}
 use Rattle.lines.specs.Lines.{split, told, whole, too_long, line_of}
 

@@ -1,5 +1,5 @@
 -- Laws: a reader that is fed an input byte by byte hands on the lines of the input, each as it is or as too long.
-use Rattle.std.specs.Prelude.{◌≡◌, refl, Bool, cond, List, [], ◌∷◌, ◌++◌, map, ◌⊎◌, ℕ, suc, ◌+◌, ◌<◌, ◌≤◌, take, set, eqb}
+use Rattle.std.specs.Prelude.{not, ◌≡◌, refl, Bool, cond, List, [], ◌∷◌, ◌++◌, map, ℕ, suc, ◌+◌, ◌<◌, ◌≤◌, take, set, eqb}
 use Rattle.std.proofs.Common.{sym, ap, ◌∙◌, subst, append_assoc, append-nil, ⊎_elim, arith, length-set, length-append, take-suc-set}
 use Rattle.std.proofs.Math.Bool.{true, false}
 use Rattle.std.proofs.Math.ListN.{length}
@@ -11,7 +11,7 @@ use Rattle.laws.specs.Bools.{true_or_false}
 use Rattle.laws.specs.Fit.{no_both}
 use Rattle.lines.specs.Hex.{Each}
 use Rattle.lines.specs.HexLaws.{below_or_not}
-use Rattle.lines.specs.Lines.{lf, before, split, Told, whole, told, fresh, standing, ending, fed, stored, heard, unfinished, StartSays, FeedSays, LastSays, Reading, answered, taken, all_taken, finished, in_turn}
+use Rattle.lines.specs.Lines.{lf, before, split, Told, whole, told, fresh, standing, ending, fed, stored, heard, unfinished, StartSays, FeedSays, LastSays, Reading, taken, all_taken, finished, in_turn}
 
 pub StartSays-unique : (r s : Line) → StartSays r → StartSays s → r ≡ s
 StartSays-unique r s p q = p ∙ sym q
@@ -45,15 +45,15 @@ module _ (text : List ℕ) (s t : Line) (b : ℕ) (at : t ≡ standing s) where
 
 -- ---- the end of the input, by cases
 module _ (s : Line) where
-  pub last-ended : s.ended ≡ true → LastSays s false
+  pub last-ended : not s.ended ≡ false → LastSays s (not s.ended)
   unfolding unfinished
   last-ended e = simp e
 
-  pub last-over : s.ended ≡ false → s.over ≡ true → LastSays s true
+  pub last-over : not s.ended ≡ true → s.over ≡ true → LastSays s s.over
   unfolding unfinished
   last-over e f = simp (e, f)
 
-  pub last-held : s.ended ≡ false → s.over ≡ false → LastSays s (ltb 0 s.held)
+  pub last-held : not s.ended ≡ true → s.over ≡ false → LastSays s (ltb 0 s.held)
   unfolding unfinished
   last-held e f = simp (e, f)
 

@@ -15,13 +15,12 @@ hex_front : (bytes : List ℕ) (i : ℕ) → i ≤ length bytes → length (hex_
 hex_front bytes i h = hex_length (take i bytes) ∙ ap (λ m. m + m) (length-take-le i bytes h)
 
 -- a byte more of the line
-pub line_step : (bytes old out : List ℕ) (i at : ℕ) → i < length bytes → at ≡ i + i → at + 2 ≤ length old
-    → out ≡ hex_of (take i bytes) ++ drop at old
-    → set (set out at (digit (get_or bytes i 0 / 16))) (at + 1) (digit (get_or bytes i 0 % 16)) ≡ hex_of (take (i + 1) bytes) ++ drop (at + 2) old
-line_step bytes old out i at h e l f =
-    ap (λ (o : List ℕ). set (set o at (digit (get_or bytes i 0 / 16))) (at + 1) (digit (get_or bytes i 0 % 16))) f
-    ∙ two-set (hex_of (take i bytes)) old at (digit (get_or bytes i 0 / 16)) (digit (get_or bytes i 0 % 16)) (hex_front bytes i (omega arith) ∙ sym e) l
-    ∙ ap (λ (o : List ℕ). o ++ drop (at + 2) old) (sym (hex_append (take i bytes) (get_or bytes i 0 ∷ [])) ∙ ap hex_of more)
+pub line_step : (bytes old out : List ℕ) (i : ℕ) → i < length bytes → i + i + 2 ≤ length old → out ≡ hex_of (take i bytes) ++ drop (i + i) old
+    → set (set out (i + i) (digit (get_or bytes i 0 / 16))) (i + i + 1) (digit (get_or bytes i 0 % 16)) ≡ hex_of (take (i + 1) bytes) ++ drop (i + i + 2) old
+line_step bytes old out i h l f =
+    ap (λ (o : List ℕ). set (set o (i + i) (digit (get_or bytes i 0 / 16))) (i + i + 1) (digit (get_or bytes i 0 % 16))) f
+    ∙ two-set (hex_of (take i bytes)) old (i + i) (digit (get_or bytes i 0 / 16)) (digit (get_or bytes i 0 % 16)) (hex_front bytes i (omega arith)) l
+    ∙ ap (λ (o : List ℕ). o ++ drop (i + i + 2) old) (sym (hex_append (take i bytes) (get_or bytes i 0 ∷ [])) ∙ ap hex_of more)
   where
     more : take i bytes ++ get_or bytes i 0 ∷ [] ≡ take (i + 1) bytes
     more = sym (take-suc bytes i 0 h) ∙ ap (λ m. take m bytes) (sym (add-one i))
@@ -38,26 +37,21 @@ unfolding fitted
 no_room line old h = simp (lt-leb (length line) (length old) h)
 
 -- and its LF
-pub line-end : (bytes old out : List ℕ) (i at : ℕ) → i ≡ length bytes → at ≡ i + i → at < length old → out ≡ hex_of (take i bytes) ++ drop at old
-    → WriteLineSays bytes old (at + 1) (set out at 10)
-line-end bytes old out i at h e l f =
+pub line-end : (bytes old out : List ℕ) (i : ℕ) → i ≡ length bytes → i + i < length old → out ≡ hex_of (take i bytes) ++ drop (i + i) old
+    → WriteLineSays bytes old (length bytes + length bytes + 1) (set out (length bytes + length bytes) 10)
+line-end bytes old out i h l f =
+    let n = length bytes + length bytes in
     record {
-      count = sym (ap length room ∙ size);
+      count = sym (ap length room ∙ line-length bytes);
       text =
-          ap (λ (o : List ℕ). set o at 10) (f ∙ ap (λ (o : List ℕ). hex_of o ++ drop at old) whole)
-          ∙ one_set (hex_of bytes) old at 10 (hex_length bytes ∙ omega arith) l
-          ∙ ap (λ m. line_of bytes ++ drop m old) (sym size)
+          ap (λ (o : List ℕ). set o n 10) (f ∙ ap (λ m. hex_of (take m bytes) ++ drop (m + m) old) h ∙ ap (λ (o : List ℕ). hex_of o ++ drop n old) (take_all (length bytes) bytes (omega arith)))
+          ∙ one_set (hex_of bytes) old n 10 (hex_length bytes) (omega (arith, h))
+          ∙ ap (λ m. line_of bytes ++ drop m old) (sym (line-length bytes))
           ∙ ap (over old) (sym room);
     }
   where
-    whole : take i bytes ≡ bytes
-    whole = take_all i bytes (omega arith)
-
-    size : length (line_of bytes) ≡ at + 1
-    size = line-length bytes ∙ omega arith
-
     room : fitted old (line_of bytes) ≡ line_of bytes
-    room = fits (line_of bytes) old (omega (arith, size))
+    room = fits (line_of bytes) old (omega (arith, h, line-length bytes))
 
 -- or there is no room for it
 pub no_line : (bytes old : List ℕ) → length old < length bytes + length bytes + 1 → WriteLineSays bytes old 0 old

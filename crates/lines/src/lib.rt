@@ -2,31 +2,24 @@
 #![tactic(auto)]
 
 ghost use Rattle.std.specs.Prelude.{◌≡◌, ◌+◌, ◌<◌, length};
+ghost use Rattle.refusal.specs.Outcomes.{outcome};
 ghost use Rattle.lines.specs.Hex.{DecodeHexSays, digit};
 ghost use Rattle.lines.specs.Lines.{StartSays, FeedSays, LastSays, WriteLineSays, standing};
 ghost use Rattle.lines.specs.Inside.{DigitOf, DigitsIn, AllDigits, SpelledBy};
 
-// A malformed line: document 01's refusal number that only a program gives.
-pub const MALFORMED: u8 = 8;
+use refusal::Refusal;
 
 // ---- digits
 
-// The bytes that a line spells: their count, or a refusal number.
-#[derive(Clone, Copy)]
-pub enum Digits {
-    Bytes(usize),
-    Bad(u8),
-}
-
-// The value of a digit in either case, 16 for any other character.
-fn digit_of(c: u8) -> u8
+// The value of a digit in either case.
+fn digit_of(c: u8) -> Option<u8>
     ensures { DigitOf c result }
 {
     match c {
-        48..=57 => c - 48,
-        65..=70 => c - 55,
-        97..=102 => c - 87,
-        _ => 16,
+        b'0'..=b'9' => Some(c - b'0'),
+        b'A'..=b'F' => Some(c - b'A' + 10),
+        b'a'..=b'f' => Some(c - b'a' + 10),
+        _ => None,
     }
 }
 
@@ -34,13 +27,10 @@ fn digit_of(c: u8) -> u8
 fn all_digits(line: &[u8]) -> bool
     ensures { DigitsIn line.now result }
 {
-    let mut i = 0;
-    while i < line.len() {
-        let d = digit_of(line[i]);
-        if 16 <= d {
+    for c in line {
+        if digit_of(*c).is_none() {
             return false;
         }
-        i += 1;
     }
     true
 }
@@ -50,37 +40,32 @@ fn fill(line: &[u8], out: &mut [u8])
     requires { (length line.now ≡ length out.old + length out.old) × AllDigits line.now }
     ensures { SpelledBy line.now out.new }
 {
-    let mut i = 0;
-    let mut at = 0;
-    while i < out.len() {
-        let high = digit_of(line[at]);
-        let low = digit_of(line[at + 1]);
+    for i in 0..out.len() {
+        let high = digit_of(line[i + i]).unwrap();
+        let low = digit_of(line[i + i + 1]).unwrap();
         out[i] = high * 16 + low;
-        i += 1;
-        at += 2;
     }
 }
 
-// The bytes that a line spells, into the front of `out`. Nothing is written where it spells none, or more than there is room for.
-pub fn decode_hex(line: &[u8], out: &mut [u8]) -> Digits
-    ensures { DecodeHexSays line.now out.old result out.new }
+// The bytes that a line spells, into the front of `out`: their count. Nothing is written where it spells none, or more than there is room for.
+pub fn decode_hex(line: &[u8], out: &mut [u8]) -> Result<usize, Refusal>
+    ensures { DecodeHexSays line.now out.old (outcome result) out.new }
 {
     let n = line.len() / 2;
     if n == 0 {
-        return Digits::Bad(MALFORMED);
+        return Err(Refusal::Malformed);
     }
     if n + n != line.len() {
-        return Digits::Bad(MALFORMED);
+        return Err(Refusal::Malformed);
     }
     if out.len() < n {
-        return Digits::Bad(MALFORMED);
+        return Err(Refusal::Malformed);
     }
-    if all_digits(line) {
-        fill(line, &mut out[0..n]);
-        Digits::Bytes(n)
-    } else {
-        Digits::Bad(MALFORMED)
+    if !all_digits(line) {
+        return Err(Refusal::Malformed);
     }
+    fill(line, &mut out[..n]);
+    Ok(n)
 }
 
 // ---- lines
@@ -108,10 +93,7 @@ pub fn start() -> Line
 fn ready(line: Line) -> Line
     ensures { result ≡ standing line }
 {
-    if line.ended {
-        return start();
-    }
-    line
+    if line.ended { start() } else { line }
 }
 
 // The next byte of the input. A byte that does not fit into `text` is dropped, and the line is over-long until its LF.
@@ -120,25 +102,21 @@ pub fn feed(line: Line, b: u8, text: &mut [u8]) -> Line
 {
     let s = ready(line);
     let held = s.held;
-    if b == 10 {
-        return Line {
-            held,
-            over: s.over,
-            ended: true,
-        };
+    if b == b'\n' {
+        return Line { ended: true, ..s };
     }
     if held < text.len() {
         text[held] = b;
         Line {
             held: held + 1,
-            over: s.over,
             ended: false,
+            ..s
         }
     } else {
         Line {
-            held,
             over: true,
             ended: false,
+            ..s
         }
     }
 }
@@ -147,13 +125,7 @@ pub fn feed(line: Line, b: u8, text: &mut [u8]) -> Line
 pub fn last(line: Line) -> bool
     ensures { LastSays line result }
 {
-    if line.ended {
-        return false;
-    }
-    if line.over {
-        return true;
-    }
-    0 < line.held
+    !line.ended && (line.over || 0 < line.held)
 }
 
 // ---- lines written
@@ -163,7 +135,7 @@ fn character(n: u8) -> u8
     requires { n < 16 }
     ensures { result ≡ digit n }
 {
-    if n < 10 { 48 + n } else { 55 + n }
+    if n < 10 { b'0' + n } else { b'A' - 10 + n }
 }
 
 // Digits and LF into the front of `out`. Where there is no room for them, nothing is written and the count is 0.
@@ -173,15 +145,12 @@ pub fn write_line(bytes: &[u8], out: &mut [u8]) -> usize
     if out.len() < bytes.len() + bytes.len() + 1 {
         return 0;
     }
-    let mut i = 0;
-    let mut at = 0;
-    while i < bytes.len() {
+    let n = bytes.len();
+    for i in 0..n {
         let b = bytes[i];
-        out[at] = character(b / 16);
-        out[at + 1] = character(b % 16);
-        i += 1;
-        at += 2;
+        out[i + i] = character(b / 16);
+        out[i + i + 1] = character(b % 16);
     }
-    out[at] = 10;
-    at + 1
+    out[n + n] = b'\n';
+    n + n + 1
 }

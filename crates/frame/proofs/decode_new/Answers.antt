@@ -5,9 +5,9 @@ use Rattle.frame.proofs.decode_new.Goals as goal
 
 -- `frame::decode_new` meets its contract: six bytes are the frame of what stands in them.
 
-pub returns-then-bytes-eq6 : goal.returns-then-bytes-eq6
-returns-then-bytes-eq6 c =
-    DecodeSays.asked _ (asks_new c.args.bytes.now c.if-bytes-eq6.true c.requires.1 (λ k. (c.type_inv.bytes k).fits)) refl
+pub returns : goal.returns
+returns c =
+    DecodeSays.asked _ (asks_new c.args.bytes.now c.if-bytes-ne6.false c.requires.1 (λ k. (c.type_inv.bytes k).fits)) refl
 
-pub returns-else-bytes-eq6 : goal.returns-else-bytes-eq6
-returns-else-bytes-eq6 c = DecodeSays.refused (no_new c.args.bytes.now c.requires.1 c.if-bytes-eq6.false) refl
+pub returns-then-bytes-ne6 : goal.returns-then-bytes-ne6
+returns-then-bytes-ne6 c = DecodeSays.refused (no_new c.args.bytes.now c.requires.1 c.if-bytes-ne6.true) refl

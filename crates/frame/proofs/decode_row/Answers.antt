@@ -2,8 +2,9 @@ use mathlib.Core.Path.{refl, sym, ap}
 use native.Mathlib.Omega.{arith}
 use lib.ListN.{get_or, drop, length-drop}
 use Rattle.frame.specs.FrameLaws.{asks_row, no_row}
+use Rattle.refusal.specs.Outcomes.{Done}
 use Rattle.frame.specs.Frames.{DecodeSays, row}
-use Rattle.frame.specs.declared.Frame.TheVariants.{Row}
+use Rattle.frame.specs.declared.Request.TheVariants.{Row}
 use Rattle.frame.proofs.decode_row.Goals as goal
 
 -- `frame::decode_row` meets its contract: 2 to 50 bytes are the frame of what stands in them.
@@ -18,4 +19,4 @@ pub returns : goal.returns
 returns c =
     let bytes = c.args.bytes.now in
     DecodeSays.asked (row (get_or bytes 1 0) (drop 2 bytes)) (asks_row bytes (omega arith) (omega arith) c.requires.1 (λ k. (c.type_inv.bytes k).fits))
-    (ap (Row (get_or bytes 1 0)) (sym (length-drop 2 bytes)))
+    (ap (λ n. Done (Row (get_or bytes 1 0) n)) (sym (length-drop 2 bytes)))

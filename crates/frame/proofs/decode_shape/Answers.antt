@@ -12,10 +12,10 @@ returns-in_default c =
 
 pub returns-then-bytes-eq3 : goal.returns-then-bytes-eq3
 returns-then-bytes-eq3 c =
-    let k = c.in-Of in
+    let k = c.in-Some in
     DecodeSays.asked (score k.kind k.opacity) (asks_score c.args.bytes.now k.kind k.opacity c.requires.0 c.if-bytes-eq3.true (shape_some k.kind k.opacity c.shape_of.ensures k.is)) refl
 
 pub returns : goal.returns
 returns c =
-    let k = c.in-Of in
+    let k = c.in-Some in
     DecodeSays.asked (paint k.kind k.opacity) (asks_paint c.args.bytes.now k.kind k.opacity c.requires.0 (omega arith) (shape_some k.kind k.opacity c.shape_of.ensures k.is)) refl

@@ -1,40 +1,27 @@
 use mathlib.Core.Path.{refl}
-use Rattle.std.proofs.Common.{arith}
-use Rattle.frame.specs.FrameLaws.{shape_found, no_shape_short, no_shape_size, no_shape_number}
+use mir.Syntax.{w32}
+use Rattle.cover.specs.declared.Kind.TheVariants.{Circle, Triangle, Quad}
+use Rattle.laws.specs.Fit.{read}
+use Rattle.frame.specs.FrameLaws.{shape_found}
 use Rattle.frame.specs.Inside.{ShapeFound}
 use Rattle.frame.proofs.shape_of.Goals as goal
 
--- `frame::shape_of` meets its contract: a kind's number tells how long its frame is.
+-- `frame::shape_of` meets its contract: each coordinate as it was read.
 
-pub returns-then-n-lt6 : goal.returns-then-n-lt6
-returns-then-n-lt6 c = ShapeFound.unknown (no_shape_short c.args.bytes.now c.if-n-lt6.true) refl
+pub returns-in-1-eq12 : goal.returns-in-1-eq12
+returns-in-1-eq12 c =
+    let o = c.opacity_of-opacity in
+    simp (read w32 c.coordinate.result c.coordinate.type_inv, read w32 c.coordinate-in-1-eq12.result c.coordinate-in-1-eq12.type_inv, read w32 c.coordinate-in-1-eq12-2.result c.coordinate-in-1-eq12-2.type_inv)
+    (ShapeFound.found _ _ (shape_found c.args.bytes.now (Circle c.coordinate.result c.coordinate-in-1-eq12.result c.coordinate-in-1-eq12-2.result) o.result 1 (record { named = refl; held = (c.coordinate.ensures, (c.coordinate-in-1-eq12.ensures, (c.coordinate-in-1-eq12-2.ensures, tt))); size = c.in-1-eq12.is-1 }) c.in-1-eq12.is-0 o.ensures o.type_inv) refl)
 
-pub returns-then-n-eq12 : goal.returns-then-n-eq12
-returns-then-n-eq12 c =
-    let k = c.circle in
-    let o = c.opacity_of in
-    ShapeFound.found _ _ (shape_found c.args.bytes.now k.result o.result 1 k.ensures c.if-kind-eq1.true o.ensures o.type_inv) refl
+pub returns-in-2-eq18 : goal.returns-in-2-eq18
+returns-in-2-eq18 c =
+    let o = c.opacity_of-opacity in
+    simp (read w32 c.coordinate-in-2-eq18.result c.coordinate-in-2-eq18.type_inv, read w32 c.coordinate-in-2-eq18-2.result c.coordinate-in-2-eq18-2.type_inv, read w32 c.coordinate-in-2-eq18-3.result c.coordinate-in-2-eq18-3.type_inv, read w32 c.coordinate-in-2-eq18-4.result c.coordinate-in-2-eq18-4.type_inv, read w32 c.coordinate-in-2-eq18-5.result c.coordinate-in-2-eq18-5.type_inv, read w32 c.coordinate-in-2-eq18-6.result c.coordinate-in-2-eq18-6.type_inv)
+    (ShapeFound.found _ _ (shape_found c.args.bytes.now (Triangle c.coordinate-in-2-eq18.result c.coordinate-in-2-eq18-2.result c.coordinate-in-2-eq18-3.result c.coordinate-in-2-eq18-4.result c.coordinate-in-2-eq18-5.result c.coordinate-in-2-eq18-6.result) o.result 2 (record { named = refl; held = (c.coordinate-in-2-eq18.ensures, (c.coordinate-in-2-eq18-2.ensures, (c.coordinate-in-2-eq18-3.ensures, (c.coordinate-in-2-eq18-4.ensures, (c.coordinate-in-2-eq18-5.ensures, (c.coordinate-in-2-eq18-6.ensures, tt)))))); size = c.in-2-eq18.is-1 }) c.in-2-eq18.is-0 o.ensures o.type_inv) refl)
 
-pub returns-then-kind-eq1 : goal.returns-then-kind-eq1
-returns-then-kind-eq1 c = ShapeFound.unknown (no_shape_size c.args.bytes.now 1 c.if-kind-eq1.true (λ e. c.if-n-eq12.false e)) refl
-
-pub returns-then-n-eq18 : goal.returns-then-n-eq18
-returns-then-n-eq18 c =
-    let k = c.triangle in
-    let o = c.opacity_of-then-n-eq18 in
-    ShapeFound.found _ _ (shape_found c.args.bytes.now k.result o.result 2 k.ensures c.if-kind-eq2.true o.ensures o.type_inv) refl
-
-pub returns-then-kind-eq2 : goal.returns-then-kind-eq2
-returns-then-kind-eq2 c = ShapeFound.unknown (no_shape_size c.args.bytes.now 2 c.if-kind-eq2.true (λ e. c.if-n-eq18.false e)) refl
-
-pub returns-then-n-eq22 : goal.returns-then-n-eq22
-returns-then-n-eq22 c =
-    let k = c.quad in
-    let o = c.opacity_of-then-n-eq22 in
-    ShapeFound.found _ _ (shape_found c.args.bytes.now k.result o.result 3 k.ensures (omega arith) o.ensures o.type_inv) refl
-
-pub returns-then-kind-eq3 : goal.returns-then-kind-eq3
-returns-then-kind-eq3 c = ShapeFound.unknown (no_shape_size c.args.bytes.now 3 c.if-kind-eq3.true (λ e. c.if-n-eq22.false e)) refl
-
-pub returns : goal.returns
-returns c = ShapeFound.unknown (no_shape_number c.args.bytes.now c.if-kind-eq1.false c.if-kind-eq2.false (λ e. omega arith)) refl
+pub returns-in-3-eq22 : goal.returns-in-3-eq22
+returns-in-3-eq22 c =
+    let o = c.opacity_of-opacity in
+    simp (read w32 c.coordinate-in-3-eq22.result c.coordinate-in-3-eq22.type_inv, read w32 c.coordinate-in-3-eq22-2.result c.coordinate-in-3-eq22-2.type_inv, read w32 c.coordinate-in-3-eq22-3.result c.coordinate-in-3-eq22-3.type_inv, read w32 c.coordinate-in-3-eq22-4.result c.coordinate-in-3-eq22-4.type_inv, read w32 c.coordinate-in-3-eq22-5.result c.coordinate-in-3-eq22-5.type_inv, read w32 c.coordinate-in-3-eq22-6.result c.coordinate-in-3-eq22-6.type_inv, read w32 c.coordinate-in-3-eq22-7.result c.coordinate-in-3-eq22-7.type_inv, read w32 c.coordinate-in-3-eq22-8.result c.coordinate-in-3-eq22-8.type_inv)
+    (ShapeFound.found _ _ (shape_found c.args.bytes.now (Quad c.coordinate-in-3-eq22.result c.coordinate-in-3-eq22-2.result c.coordinate-in-3-eq22-3.result c.coordinate-in-3-eq22-4.result c.coordinate-in-3-eq22-5.result c.coordinate-in-3-eq22-6.result c.coordinate-in-3-eq22-7.result c.coordinate-in-3-eq22-8.result) o.result 3 (record { named = refl; held = (c.coordinate-in-3-eq22.ensures, (c.coordinate-in-3-eq22-2.ensures, (c.coordinate-in-3-eq22-3.ensures, (c.coordinate-in-3-eq22-4.ensures, (c.coordinate-in-3-eq22-5.ensures, (c.coordinate-in-3-eq22-6.ensures, (c.coordinate-in-3-eq22-7.ensures, (c.coordinate-in-3-eq22-8.ensures, tt)))))))); size = c.in-3-eq22.is-1 }) c.in-3-eq22.is-0 o.ensures o.type_inv) refl)

@@ -1,5 +1,4 @@
 use mathlib.Core.Path.{sym}
-use borrow.Author.Rules.{rules}
 use Rattle.lines.specs.HexLaws.{digit_low, digit_high}
 use Rattle.lines.proofs.character.Goals as goal
 

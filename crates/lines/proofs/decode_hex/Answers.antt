@@ -1,9 +1,7 @@
 use Prim.Native.Nat.{◌/◌}
 use mathlib.Core.Path.{refl}
-use native.Mathlib.Nat.{sub-zero}
 use native.Mathlib.Omega.{arith}
 use lib.ListN.{length, length-take}
-use borrow.Author.Rules.{rules}
 use Rattle.lines.specs.HexLaws.{decodes, spells-length, spells_digits}
 use Rattle.lines.specs.Hex.{DecodeHexSays}
 use Rattle.lines.proofs.decode_hex.Goals as goal
@@ -20,16 +18,16 @@ pub returns-then-out-n : goal.returns-then-out-n
 returns-then-out-n c = DecodeHexSays.refused (λ bytes s l. omega (arith, spells-length s)) refl refl
 
 pub fill-requires : goal.fill-requires
-fill-requires c = (simp length-take (omega arith), c.all_digits.ensures.yes c.if-all_digits.true)
+fill-requires c = (simp length-take (omega arith), c.all_digits.ensures.yes c.if-not-all_digits.false)
 
-pub returns-then-all_digits : goal.returns-then-all_digits
-returns-then-all_digits c =
+pub returns : goal.returns
+returns c =
     let a = c.args in
     let f = c.fill in
-    decodes a.line.now a.out.now f.new.out _ (length a.line.now / 2) (simp sub-zero)
+    decodes a.line.now a.out.now f.new.out _ (length a.line.now / 2) refl
     (omega (arith, simp length-take at f.auto.out)) (omega arith) (omega arith)
-    (λ k. (c.slice_known-then-all_digits-1.given k).fits)
+    (λ k. (c.type_inv.out k).fits)
     f.ensures
 
-pub returns-else-all_digits : goal.returns-else-all_digits
-returns-else-all_digits c = DecodeHexSays.refused (λ bytes s l. c.all_digits.ensures.no c.if-all_digits.false (spells_digits s)) refl refl
+pub returns-then-not-all_digits : goal.returns-then-not-all_digits
+returns-then-not-all_digits c = DecodeHexSays.refused (λ bytes s l. c.all_digits.ensures.no c.if-not-all_digits.true (spells_digits s)) refl refl

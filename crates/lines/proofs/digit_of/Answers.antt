@@ -1,5 +1,4 @@
 use native.Mathlib.Omega.{arith}
-use borrow.Author.Rules.{rules}
 use Rattle.lines.specs.HexLaws.{digit_number, digit_capital, digit_small, digit_none}
 use Rattle.lines.proofs.digit_of.Goals as goal
 

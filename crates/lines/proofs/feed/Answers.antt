@@ -1,4 +1,3 @@
-use borrow.Author.Rules.{rules}
 use Rattle.lines.specs.LineLaws.{feeds_lf, feeds_held, feeds_over}
 use Rattle.lines.proofs.feed.Goals as goal
 
