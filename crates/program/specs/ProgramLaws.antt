@@ -10,8 +10,8 @@ use Rattle.frame.specs.declared.Read.{Read}
 use Rattle.frame.specs.declared.Answer.{Answer}
 use Rattle.frame.specs.declared.Answer.TheVariants.{Refused}
 use Rattle.held.specs.declared.State.{State}
-use Rattle.held.specs.declared.Request as asked
-use Rattle.held.specs.declared.Asked.TheVariants.{Of, Bad}
+use Rattle.refusal.specs.Outcomes as outcome
+use Rattle.frame.specs.declared.Request as asked
 use Rattle.session.specs.declared.Stepped.{Stepped}
 use Rattle.session.specs.Session.{Session, answer, after}
 use Rattle.held.specs.Asking.{request_of, asked_of}
@@ -45,7 +45,7 @@ gives_length (more p q) = ap suc (gives_length q)
 
 -- ---- a line through the crates: what the program does with it
 module _ (s : State) (t c tab : List Float) (line : List ℕ) (read : Read) (reads : ReadFrameSays line read) where
-  pub line_taken : (k : asked.Request) (r : Stepped) (t' c' tab' : List Float) → asked_of read.frame ≡ Of k → StepSays s k read.bytes t c tab r t' c' tab'
+  pub line_taken : (k : asked.Request) (r : Stepped) (t' c' tab' : List Float) → asked_of read.frame ≡ outcome.Done k → StepSays s k read.bytes t c tab r t' c' tab'
       → LineGives (session_of s t c) line r.answer (session_of r.state t' c')
   line_taken k r t' c' tab' e step = by reads
     where
@@ -55,14 +55,11 @@ module _ (s : State) (t c tab : List Float) (line : List ℕ) (read : Read) (rea
           let same : request_of k read.bytes ≡ p = read_asks line read k reads e p a in
           LineGives.taken p a (step.answered ∙ ap (answer (session_of s t c)) same) (step.session ∙ ap (after (session_of s t c)) same)
 
-  pub line_refused : (n : ℕ) → asked_of read.frame ≡ Bad n → LineGives (session_of s t c) line (Refused malformed) (session_of s t c)
+  pub line_refused : (n : ℕ) → asked_of read.frame ≡ outcome.Refused n → LineGives (session_of s t c) line (Refused malformed) (session_of s t c)
   line_refused n e = by reads
     where
-      never : (p : Request) → asked_of (decoded p) ≡ Bad n → ⊥
-      never (new w h r g b) f = let z : ◌≡◌ {A = ℕ} 0 1 = cc in omega arith
-      never (row y pixels) f = let z : ◌≡◌ {A = ℕ} 0 1 = cc in omega arith
-      never (score k o) f = let z : ◌≡◌ {A = ℕ} 0 1 = cc in omega arith
-      never (paint k o) f = let z : ◌≡◌ {A = ℕ} 0 1 = cc in omega arith
+      never : (p : Request) → outcome.Done (decoded p) ≡ outcome.Refused n → ⊥
+      never p f = let z : ◌≡◌ {A = ℕ} 0 1 = cc in omega arith
 
       by : ReadFrameSays line read → LineGives (session_of s t c) line (Refused malformed) (session_of s t c)
       by (ReadFrameSays.refused m f) = LineGives.refused m refl refl

@@ -2,153 +2,66 @@
 #![tactic(auto)]
 
 use cover::Kind;
-use frame::{Answer, Frame, Read, Values};
-use lines::{Digits, Line};
+use frame::{Answer, Read, Request, Values};
+use lines::Line;
+use refusal::Refusal;
 use std::io;
-
-#[derive(Clone, Copy)]
-struct State {
-    line: Line,
-    end: bool,
-}
-
-fn number(rt: &impl Print, n: i32) -> io::Result<()> {
-    show::text(rt, " ")?;
-    show::signed32(rt, n)
-}
-
-fn corner(rt: &impl Print, x: i32, y: i32) -> io::Result<()> {
-    number(rt, x)?;
-    number(rt, y)
-}
-
-fn kind(rt: &impl Print, k: Kind) -> io::Result<()> {
-    match k {
-        Kind::Circle(cx, cy, r) => {
-            show::text(rt, " circle")?;
-            corner(rt, cx, cy)?;
-            number(rt, r)
-        }
-        Kind::Triangle(x0, y0, x1, y1, x2, y2) => {
-            show::text(rt, " triangle")?;
-            corner(rt, x0, y0)?;
-            corner(rt, x1, y1)?;
-            corner(rt, x2, y2)
-        }
-        Kind::Quad(x0, y0, x1, y1, x2, y2, x3, y3) => {
-            show::text(rt, " quad")?;
-            corner(rt, x0, y0)?;
-            corner(rt, x1, y1)?;
-            corner(rt, x2, y2)?;
-            corner(rt, x3, y3)
-        }
-    }
-}
+use std::io::Read as _;
 
 fn shape(rt: &impl Print, name: &str, k: Kind, opacity: u32) -> io::Result<()> {
-    show::text(rt, name)?;
-    kind(rt, k)?;
-    show::text(rt, " opacity ")?;
-    show::hex(rt, opacity as u64, 8)?;
-    show::text(rt, "\n")
-}
-
-fn byte(rt: &impl Print, b: u8) -> io::Result<()> {
-    show::text(rt, " ")?;
-    show::unsigned(rt, b as u64)
-}
-
-fn refused(rt: &impl Print, no: u8) -> io::Result<()> {
-    show::text(rt, "refused")?;
-    byte(rt, no)
-}
-
-fn refused_line(rt: &impl Print, no: u8) -> io::Result<()> {
-    refused(rt, no)?;
-    show::text(rt, "\n")
-}
-
-fn new(rt: &impl Print, w: u8, h: u8, r: u8, g: u8, b: u8) -> io::Result<()> {
-    show::text(rt, "new")?;
-    byte(rt, w)?;
-    byte(rt, h)?;
-    byte(rt, r)?;
-    byte(rt, g)?;
-    byte(rt, b)?;
-    show::text(rt, "\n")
-}
-
-fn row_heading(rt: &impl Print, y: u8, n: usize) -> io::Result<()> {
-    show::text(rt, "row")?;
-    byte(rt, y)?;
-    show::text(rt, " of ")?;
-    show::unsigned(rt, n as u64)
+    match k {
+        Kind::Circle(cx, cy, r) => print!(rt; "{name} circle {cx} {cy} {r}")?,
+        Kind::Triangle(x0, y0, x1, y1, x2, y2) => {
+            print!(rt; "{name} triangle {x0} {y0} {x1} {y1} {x2} {y2}")?;
+        }
+        Kind::Quad(x0, y0, x1, y1, x2, y2, x3, y3) => {
+            print!(rt; "{name} quad {x0} {y0} {x1} {y1} {x2} {y2} {x3} {y3}")?;
+        }
+    }
+    println!(rt; " opacity {opacity:08x}")
 }
 
 fn line_of(rt: &impl Print, bytes: &[u8]) -> io::Result<()> {
     let mut out = [0u8; 100];
     let k = lines::write_line(bytes, &mut out);
-    if k <= out.len() {
-        rt.write_all(&out[0..k])?;
-    }
-    Ok(())
-}
-
-// A row's pixels are written back as digits.
-fn row_pixels(rt: &impl Print, f: Frame, bytes: [u8; 50]) -> io::Result<()> {
-    let Frame::Row(y, n) = f else {
-        return Ok(());
-    };
-    show::text(rt, ": ")?;
-    if n <= 48 {
-        let e = n + 2;
-        line_of(rt, &bytes[2..e])?;
-    }
-    Ok(())
-}
-
-// Whether the bytes behind a refusal, and after a frame, are zeros is not shown by the kinds of frame alone.
-fn first_and_last(rt: &impl Print, bytes: [u8; 50]) -> io::Result<()> {
-    show::text(rt, "  bytes")?;
-    byte(rt, bytes[0])?;
-    byte(rt, bytes[1])?;
-    byte(rt, bytes[49])?;
-    show::text(rt, "\n")
+    rt.write_all(&out[..k])
 }
 
 // A row without its pixels, whose line goes on.
-fn what(rt: &impl Print, f: Frame) -> io::Result<()> {
-    match f {
-        Frame::New(w, h, r, g, b) => new(rt, w, h, r, g, b),
-        Frame::Row(y, n) => row_heading(rt, y, n),
-        Frame::Score(k, opacity) => shape(rt, "score", k, opacity),
-        Frame::Paint(k, opacity) => shape(rt, "paint", k, opacity),
-        Frame::Bad(no) => refused_line(rt, no),
+fn what(rt: &impl Print, frame: Result<Request, Refusal>) -> io::Result<()> {
+    match frame {
+        Ok(Request::New(w, h, r, g, b)) => println!(rt; "new {w} {h} {r} {g} {b}"),
+        Ok(Request::Row(y, n)) => print!(rt; "row {y} of {n}"),
+        Ok(Request::Score(k, opacity)) => shape(rt, "score", k, opacity),
+        Ok(Request::Paint(k, opacity)) => shape(rt, "paint", k, opacity),
+        Err(refusal) => println!(rt; "refused {}", refusal.number()),
     }
 }
 
+// A row's pixels are written back as digits. Whether the bytes behind a refusal, and after a frame, are zeros is not shown by the kinds of
+// frame alone: the first two and the last are written too.
 fn read(rt: &impl Print, r: Read) -> io::Result<()> {
-    let f = r.frame;
-    let bytes = r.bytes;
-    what(rt, f)?;
-    row_pixels(rt, f, bytes)?;
-    first_and_last(rt, bytes)
-}
-
-fn step(rt: &impl Print, line: Line, b: u8, text: &mut [u8]) -> io::Result<Line> {
-    let next = lines::feed(line, b, text);
-    if next.ended {
-        read(rt, frame::read_line(next, text))?;
+    let Read { frame, bytes } = r;
+    what(rt, frame)?;
+    if let Ok(Request::Row(_, n)) = frame {
+        print!(rt; ": ")?;
+        if n <= 48 {
+            line_of(rt, &bytes[2..n + 2])?;
+        }
     }
-    Ok(next)
+    let [first, second, .., last] = bytes;
+    println!(rt; "  bytes {first} {second} {last}")
 }
 
-fn steps(rt: &impl Print, line: Line, came: &[u8], text: &mut [u8]) -> io::Result<Line> {
-    let mut s = line;
+fn steps(rt: &impl Print, before: Line, came: &[u8], text: &mut [u8]) -> io::Result<Line> {
+    let mut line = before;
     for b in came {
-        s = step(rt, s, *b, text)?;
+        line = lines::feed(line, *b, text);
+        if line.ended {
+            read(rt, frame::read_line(line, text))?;
+        }
     }
-    Ok(s)
+    Ok(line)
 }
 
 fn finish(rt: &impl Print, line: Line, text: &[u8]) -> io::Result<()> {
@@ -158,42 +71,24 @@ fn finish(rt: &impl Print, line: Line, text: &[u8]) -> io::Result<()> {
     Ok(())
 }
 
-// One read of an input.
-fn some(
-    input: &mut impl io::Read,
-    rt: &impl Print,
-    s: State,
-    text: &mut [u8],
-) -> io::Result<State> {
-    let mut buf = [0u8; 4096];
-    let line = s.line;
-    let n = input.read(&mut buf)?;
-    if n == 0 {
-        return Ok(State { line, end: true });
-    }
-    let line = steps(rt, line, &buf[..n], text)?;
-    Ok(State { line, end: false })
-}
-
 fn standard_input(rt: &(impl Input + Print)) -> io::Result<()> {
     let mut text = [0u8; 100];
-    let mut s = State {
-        line: lines::start(),
-        end: false,
-    };
+    let mut line = lines::start();
     let mut input = rt.reader();
+    let mut buf = [0u8; 4096];
     for _ in 0..u64::MAX {
-        if s.end {
+        let n = input.read(&mut buf)?;
+        if n == 0 {
             break;
         }
-        s = some(&mut input, rt, s, &mut text)?;
+        line = steps(rt, line, &buf[..n], &mut text)?;
     }
-    finish(rt, s.line, &text)
+    finish(rt, line, &text)
 }
 
 // An input of its own.
 fn run(rt: &impl Print, input: &[u8]) -> io::Result<()> {
-    show::text(rt, "--\n")?;
+    println!(rt; "--")?;
     let mut text = [0u8; 100];
     let line = steps(rt, lines::start(), input, &mut text)?;
     finish(rt, line, &text)
@@ -201,12 +96,12 @@ fn run(rt: &impl Print, input: &[u8]) -> io::Result<()> {
 
 // Bytes without a line.
 fn bare(rt: &impl Print, bytes: &[u8]) -> io::Result<()> {
-    let f = frame::decode(bytes);
-    what(rt, f)?;
-    let Frame::Row(y, n) = f else {
-        return Ok(());
-    };
-    show::text(rt, "\n")
+    let frame = frame::decode(bytes);
+    what(rt, frame)?;
+    if let Ok(Request::Row(_, _)) = frame {
+        println!(rt)?;
+    }
+    Ok(())
 }
 
 fn bares(rt: &impl Print) -> io::Result<()> {
@@ -220,23 +115,15 @@ fn bares(rt: &impl Print) -> io::Result<()> {
     bare(rt, &[2u8; 60])
 }
 
-fn four(rt: &impl Print, a: u8, b: u8, c: u8, d: u8) -> io::Result<()> {
-    byte(rt, a)?;
-    byte(rt, b)?;
-    byte(rt, c)?;
-    byte(rt, d)?;
-    show::text(rt, "\n")
-}
-
 // Digits without a frame, into a buffer of four bytes.
 fn spelled(rt: &impl Print, line: &[u8]) -> io::Result<()> {
     let mut out = [42u8; 4];
-    let d = lines::decode_hex(line, &mut out);
-    match d {
-        Digits::Bytes(n) => show::unsigned(rt, n as u64)?,
-        Digits::Bad(no) => refused(rt, no)?,
+    match lines::decode_hex(line, &mut out) {
+        Ok(n) => print!(rt; "{n}")?,
+        Err(refusal) => print!(rt; "refused {}", refusal.number())?,
     }
-    four(rt, out[0], out[1], out[2], out[3])
+    let [a, b, c, d] = out;
+    println!(rt; " {a} {b} {c} {d}")
 }
 
 fn spellings(rt: &impl Print) -> io::Result<()> {
@@ -255,12 +142,10 @@ fn spellings(rt: &impl Print) -> io::Result<()> {
 fn answer(rt: &impl Print, a: Answer) -> io::Result<()> {
     let mut out = [42u8; 100];
     let n = frame::write_answer(a, &mut out);
-    show::unsigned(rt, n as u64)?;
-    show::text(rt, " ")?;
+    print!(rt; "{n} ")?;
     if n < 100 {
-        rt.write_all(&out[0..n])?;
-        byte(rt, out[n])?;
-        show::text(rt, "\n")?;
+        rt.write_all(&out[..n])?;
+        println!(rt; " {}", out[n])?;
     }
     Ok(())
 }
@@ -269,10 +154,9 @@ fn answer(rt: &impl Print, a: Answer) -> io::Result<()> {
 fn small(rt: &impl Print, a: Answer) -> io::Result<()> {
     let mut out = [42u8; 5];
     let n = frame::write_answer(a, &mut out);
-    show::unsigned(rt, n as u64)?;
-    show::text(rt, " ")?;
+    print!(rt; "{n} ")?;
     rt.write_all(&out)?;
-    show::text(rt, "\n")
+    println!(rt)
 }
 
 fn values(count: u32, change: u32, colour: u32) -> Values {

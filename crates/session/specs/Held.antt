@@ -14,7 +14,7 @@ use Rattle.table.specs.Table.{Table}
 use Rattle.frame.specs.Frames as frames
 use Rattle.frame.specs.declared.Answer.{Answer}
 use Rattle.held.specs.declared.State.{State}
-use Rattle.held.specs.declared.Request.{Request}
+use Rattle.frame.specs.declared.Request.{Request}
 use Rattle.held.specs.Asking.{no_picture, request_of}
 use Rattle.session.specs.declared.Stepped.{Stepped}
 use Rattle.session.specs.Session.{Session, nothing, drawing, after, answer}

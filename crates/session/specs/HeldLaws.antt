@@ -5,7 +5,7 @@ use Rattle.table.specs.Table.{Table}
 use Rattle.table.specs.TableLaws.{table-only}
 use Rattle.frame.specs.Frames as frames
 use Rattle.held.specs.declared.State.{State}
-use Rattle.held.specs.declared.Request.{Request}
+use Rattle.frame.specs.declared.Request.{Request}
 use Rattle.held.specs.Asking.{request_of, StartSays}
 use Rattle.session.specs.declared.Stepped.{Stepped}
 use Rattle.session.specs.Session.{nothing}

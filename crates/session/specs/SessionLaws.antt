@@ -28,7 +28,7 @@ use Rattle.frame.specs.declared.Values.{Values}
 use Rattle.frame.specs.declared.Answer.TheVariants.{Made, Set, Scored, Painted, Refused}
 use Rattle.frame.specs.Frames.{Request, new, row, score, paint}
 use Rattle.held.specs.declared.State.{State}
-use Rattle.held.specs.declared.Request as asked
+use Rattle.frame.specs.declared.Request as asked
 use Rattle.held.specs.Asking.{request_of}
 use Rattle.session.specs.declared.Stepped.{Stepped}
 use Rattle.session.specs.Session.{Session, nothing, drawing, channel, bad_sides, misplaced, shape_tests, refusal, score_of, painted_of, values_of, taken, given, after, answer}

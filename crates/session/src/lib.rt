@@ -5,15 +5,14 @@ ghost use Rattle.std.specs.Prelude.{◌≡◌, ◌+◌, ◌≤◌, length, take,
 ghost use Rattle.frame.specs.Frames.{new, row, score, paint};
 ghost use Rattle.frame.specs.declared.Answer.TheVariants.{Refused};
 ghost use Rattle.session.specs.Session.{bad_sides, values_of};
-ghost use Rattle.refusal.specs.Outcomes.{outcome};
+ghost use Rattle.refusal.specs.Outcomes.{number, outcome};
 ghost use Rattle.held.specs.Asking.{Carried};
 ghost use Rattle.session.specs.Held.{Sides, Holds, weighed_of, stepped, StepTakes, StepSays};
 
 use cover::Kind;
-use frame::{Answer, Values};
+use frame::{Answer, Request, Values};
 use grade::Score;
-use held::{Request, State};
-use lines::MALFORMED;
+use held::State;
 use refusal::Refusal;
 
 mod sheet;
@@ -27,24 +26,15 @@ pub struct Stepped {
 fn bad_sides(w: usize, h: usize) -> bool
     ensures { result ≡ bad_sides w h }
 {
-    if w < 1 {
-        return true;
-    }
-    if 16 < w {
-        return true;
-    }
-    if h < 1 {
-        return true;
-    }
-    16 < h
+    !matches!((w, h), (1..=16, 1..=16))
 }
 
-fn refused(s: State, number: u8) -> Stepped
-    ensures { result ≡ stepped s (Refused number) }
+fn refused(s: State, refusal: Refusal) -> Stepped
+    ensures { result ≡ stepped s (Refused (number refusal)) }
 {
     Stepped {
         state: s,
-        answer: Answer::Refused(number),
+        answer: Answer::Refused(refusal.number()),
     }
 }
 
@@ -78,7 +68,7 @@ fn step_new(
     let width = w as usize;
     let height = h as usize;
     if bad_sides(width, height) {
-        return refused(s, refusal::SIZE);
+        return refused(s, Refusal::Size);
     }
     let n = height * width * 3;
     let k = height * (width + 1) * 15;
@@ -119,17 +109,17 @@ fn step_row(
     let w = s.w;
     let h = s.h;
     if w == 0 {
-        return refused(s, MALFORMED);
+        return refused(s, Refusal::Malformed);
     }
     if n != w * 3 {
-        return refused(s, MALFORMED);
+        return refused(s, Refusal::Malformed);
     }
     let row = y as usize;
     if h <= row {
-        return refused(s, MALFORMED);
+        return refused(s, Refusal::Malformed);
     }
     if s.painted {
-        return refused(s, MALFORMED);
+        return refused(s, Refusal::Malformed);
     }
     let e = n + 2;
     let m = h * w * 3;
@@ -180,7 +170,7 @@ fn step_score(
             state: s,
             answer: Answer::Scored(values(score)),
         },
-        Err(no) => refused(s, no.number()),
+        Err(no) => refused(s, no),
     }
 }
 
@@ -223,7 +213,7 @@ fn step_paint(
                 answer: Answer::Painted(values(score), float::bits64(total)),
             }
         }
-        Err(no) => refused(s, no.number()),
+        Err(no) => refused(s, no),
     }
 }
 

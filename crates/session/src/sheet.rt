@@ -31,10 +31,8 @@ fn put_channels(bytes: &[u8], out: &mut [f32])
     requires { length bytes.now ≡ length out.old }
     ensures { out.new ≡ map channel bytes.now }
 {
-    let mut i = 0;
-    while i < out.len() {
+    for i in 0..out.len() {
         out[i] = channel(bytes[i]);
-        i += 1;
     }
 }
 

@@ -1,6 +1,5 @@
-use mathlib.Core.Path.{ap, sym, ◌∙◌}
+use mathlib.Core.Path.{ap}
 use Rattle.refusal.specs.Outcomes.{outcome}
-use Rattle.refusal.specs.Outcomes as scored
 use native.Mathlib.Nat.{sub-zero}
 use native.Mathlib.Omega.{arith}
 use Rattle.session.specs.SessionLaws.{sheet_of, rooms, sides_held, result_as, paint-number, shape_refused, shape_drawn, shape-placed, paint_done}
@@ -46,4 +45,4 @@ pub returns-in-Err : goal.returns-in-Err
 returns-in-Err c =
     let a = c.of_bits32-a.ensures in
     result_as c.refused.ensures
-    (shape_refused c.args.kind c.args.opacity c.requires a (paint-number c.args.kind c.args.opacity c.requires a) c.weighed-scored.ensures (ap outcome c.in-Err.is ∙ ap scored.Refused (sym c.number.ensures)))
+    (shape_refused c.args.kind c.args.opacity c.requires a (paint-number c.args.kind c.args.opacity c.requires a) c.weighed-scored.ensures (ap outcome c.in-Err.is))

@@ -1,6 +1,5 @@
-use mathlib.Core.Path.{ap, sym, ◌∙◌}
+use mathlib.Core.Path.{ap}
 use Rattle.refusal.specs.Outcomes.{outcome}
-use Rattle.refusal.specs.Outcomes as scored
 use Rattle.session.specs.SessionLaws.{sides_held, result_as, score-number, shape_refused, score_done}
 use Rattle.session.proofs.step_score.Goals as goal
 
@@ -17,4 +16,4 @@ pub returns-in-Err : goal.returns-in-Err
 returns-in-Err c =
     let a = c.of_bits32.ensures in
     result_as c.refused.ensures
-    (shape_refused c.args.kind c.args.opacity c.requires a (score-number c.args.kind c.args.opacity c.requires a) c.weighed-scored.ensures (ap outcome c.in-Err.is ∙ ap scored.Refused (sym c.number.ensures)))
+    (shape_refused c.args.kind c.args.opacity c.requires a (score-number c.args.kind c.args.opacity c.requires a) c.weighed-scored.ensures (ap outcome c.in-Err.is))
