@@ -9,15 +9,10 @@ use std::io;
 fn half(rt: &impl Print, r: i32, dy: i32) -> io::Result<()>
     requires { Bounded 8191 r × Bounded (nat_abs r) dy }
 {
-    show::text(rt, "half width, r ")?;
-    show::signed32(rt, r)?;
-    show::text(rt, " dy ")?;
-    show::signed32(rt, dy)?;
-    show::text(rt, ": ")?;
-    show::signed32(rt, disc::half_width(r, dy))?;
-    show::text(rt, "\n")
+    println!(rt; "half width, r {r} dy {dy}: {}", disc::half_width(r, dy))
 }
 
+// Kept one by one: a loop over a list of them would have to show of each that its row lies within the radius.
 fn main(rt: HostRuntime) -> io::Result<()> {
     half(&rt, 5, 0)?;
     half(&rt, 5, 3)?;

@@ -3,13 +3,29 @@
 // A result that is a NaN is compared as "is a NaN": both sides are put into the one form that float::bits32 and bits64 give.
 #![tactic(auto)]
 
+ghost use Rattle.std.specs.Prelude.{◌<◌, IfSome};
+
 use std::fs::File;
 use std::io;
 use std::io::Read;
 use std::rt::Files;
 
-// A line as far as it is read: the last three words before the one that is being read, and the counts so far.
+// The operations that the files have vectors of.
 #[derive(Clone, Copy)]
+enum Operation {
+    Narrow,
+    Widen,
+    Add32,
+    Sub32,
+    Mul32,
+    Add64,
+    Sub64,
+    Mul64,
+    Div64,
+}
+
+// A line as far as it is read: the last three words before the one that is being read, and the counts so far.
+#[derive(Clone, Copy, Default)]
 struct Reading {
     a: u64,
     b: u64,
@@ -43,100 +59,76 @@ fn narrows(b: u64, c: u64) -> bool {
 }
 
 // A line's words: the operation's operands a and b and its result c, or, of a conversion, the operand b and its result c.
-fn agrees(op: u8, a: u64, b: u64, c: u64) -> bool {
+fn agrees(op: Operation, a: u64, b: u64, c: u64) -> bool {
     match op {
-        0 => narrows(b, c),
-        1 => same64(float::widen(of32(b)), c),
-        2 => same32(of32(a) + of32(b), c),
-        3 => same32(of32(a) - of32(b), c),
-        4 => same32(of32(a) * of32(b), c),
-        5 => same64(of64(a) + of64(b), c),
-        6 => same64(of64(a) - of64(b), c),
-        7 => same64(of64(a) * of64(b), c),
-        _ => same64(of64(a) / of64(b), c),
+        Operation::Narrow => narrows(b, c),
+        Operation::Widen => same64(float::widen(of32(b)), c),
+        Operation::Add32 => same32(of32(a) + of32(b), c),
+        Operation::Sub32 => same32(of32(a) - of32(b), c),
+        Operation::Mul32 => same32(of32(a) * of32(b), c),
+        Operation::Add64 => same64(of64(a) + of64(b), c),
+        Operation::Sub64 => same64(of64(a) - of64(b), c),
+        Operation::Mul64 => same64(of64(a) * of64(b), c),
+        Operation::Div64 => same64(of64(a) / of64(b), c),
     }
 }
 
 // At the end of a line, which has the flags for its last word.
-fn ended(r: Reading, op: u8) -> Reading {
-    let mut wrong = 1;
-    if agrees(op, r.a, r.b, r.c) {
-        wrong = 0;
-    }
+fn ended(r: Reading, op: Operation) -> Reading {
+    let wrong = !agrees(op, r.a, r.b, r.c) as u64;
     Reading {
-        a: 0,
-        b: 0,
-        c: 0,
-        word: 0,
         lines: r.lines.wrapping_add(1),
         differences: r.differences.wrapping_add(wrong),
+        ..Reading::default()
     }
 }
 
-// The value of a capital hexadecimal digit; 16 for any other byte.
-fn digit(byte: u8) -> u64 {
+// The value of a capital hexadecimal digit.
+fn digit(byte: u8) -> Option<u64>
+    ensures { IfSome result (λ d. d < 16) }
+{
     match byte {
-        b'0'..=b'9' => (byte - b'0') as u64,
-        b'A'..=b'F' => (byte - b'A' + 10) as u64,
-        _ => 16,
+        b'0'..=b'9' => Some((byte - b'0') as u64),
+        b'A'..=b'F' => Some((byte - b'A' + 10) as u64),
+        _ => None,
     }
 }
 
-fn read(r: Reading, op: u8, byte: u8) -> Reading {
-    if byte == b'\n' {
-        return ended(r, op);
-    }
-    if byte == b' ' {
-        return Reading {
+fn read(r: Reading, op: Operation, byte: u8) -> Reading {
+    match byte {
+        b'\n' => ended(r, op),
+        b' ' => Reading {
             a: r.b,
             b: r.c,
             c: r.word,
             word: 0,
-            lines: r.lines,
-            differences: r.differences,
-        };
-    }
-    let d = digit(byte);
-    if d < 16 {
-        let more = (r.word % 0x1000_0000_0000_0000) * 16 + d;
-        return Reading {
-            a: r.a,
-            b: r.b,
-            c: r.c,
-            word: more,
-            lines: r.lines,
-            differences: r.differences,
-        };
-    }
-    // a byte that no vector has counts as a difference
-    Reading {
-        a: r.a,
-        b: r.b,
-        c: r.c,
-        word: r.word,
-        lines: r.lines,
-        differences: r.differences.wrapping_add(1),
+            ..r
+        },
+        _ => match digit(byte) {
+            Some(d) => Reading {
+                word: (r.word % 0x1000_0000_0000_0000) * 16 + d,
+                ..r
+            },
+            // a byte that no vector has counts as a difference
+            None => Reading {
+                differences: r.differences.wrapping_add(1),
+                ..r
+            },
+        },
     }
 }
 
-fn compare(before: Reading, text: &[u8], op: u8) -> Reading {
+fn compare(before: Reading, text: &[u8], op: Operation) -> Reading {
     let mut r = before;
-    for byte in text {
-        r = read(r, op, *byte);
+    for &byte in text {
+        r = read(r, op, byte);
     }
     r
 }
 
-fn run(rt: &(impl Files + Print), name: &str, op: u8) -> io::Result<()> {
+fn run(rt: &(impl Files + Print), name: &str, op: Operation) -> io::Result<()> {
     let mut file = File::open(rt, name)?;
-    let mut r = Reading {
-        a: 0,
-        b: 0,
-        c: 0,
-        word: 0,
-        lines: 0,
-        differences: 0,
-    };
+    let mut r = Reading::default();
     let mut buf = [0u8; 65536];
     for _ in 0..u64::MAX {
         let n = file.read(&mut buf)?;
@@ -149,13 +141,13 @@ fn run(rt: &(impl Files + Print), name: &str, op: u8) -> io::Result<()> {
 }
 
 fn main(rt: HostRuntime) -> io::Result<()> {
-    run(&rt, "f64_to_f32.txt", 0)?;
-    run(&rt, "f32_to_f64.txt", 1)?;
-    run(&rt, "f32_add.txt", 2)?;
-    run(&rt, "f32_sub.txt", 3)?;
-    run(&rt, "f32_mul.txt", 4)?;
-    run(&rt, "f64_add.txt", 5)?;
-    run(&rt, "f64_sub.txt", 6)?;
-    run(&rt, "f64_mul.txt", 7)?;
-    run(&rt, "f64_div.txt", 8)
+    run(&rt, "f64_to_f32.txt", Operation::Narrow)?;
+    run(&rt, "f32_to_f64.txt", Operation::Widen)?;
+    run(&rt, "f32_add.txt", Operation::Add32)?;
+    run(&rt, "f32_sub.txt", Operation::Sub32)?;
+    run(&rt, "f32_mul.txt", Operation::Mul32)?;
+    run(&rt, "f64_add.txt", Operation::Add64)?;
+    run(&rt, "f64_sub.txt", Operation::Sub64)?;
+    run(&rt, "f64_mul.txt", Operation::Mul64)?;
+    run(&rt, "f64_div.txt", Operation::Div64)
 }

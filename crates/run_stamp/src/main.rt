@@ -7,43 +7,10 @@ ghost use Rattle.stamp.specs.Lanes.{Cornered};
 
 use std::io;
 
-fn stamp(rt: &impl Print, bits: u64) -> io::Result<()> {
-    show::text(rt, ": ")?;
-    show::hex(rt, bits, 16)?;
-    show::text(rt, "\n")
-}
-
 fn circle(rt: &impl Print, r: i32) -> io::Result<()>
     requires { (pos 1 ≤ℤ r) × (r ≤ℤ pos 3) }
 {
-    show::text(rt, "circle ")?;
-    show::signed32(rt, r)?;
-    stamp(rt, stamp::circle_stamp(r))
-}
-
-fn corner(rt: &impl Print, x: i32, y: i32) -> io::Result<()> {
-    show::text(rt, " ")?;
-    show::signed32(rt, x)?;
-    show::text(rt, " ")?;
-    show::signed32(rt, y)
-}
-
-fn corners(
-    rt: &impl Print,
-    x0: i32,
-    y0: i32,
-    x1: i32,
-    y1: i32,
-    x2: i32,
-    y2: i32,
-    x3: i32,
-    y3: i32,
-) -> io::Result<()> {
-    show::text(rt, "corners")?;
-    corner(rt, x0, y0)?;
-    corner(rt, x1, y1)?;
-    corner(rt, x2, y2)?;
-    corner(rt, x3, y3)
+    println!(rt; "circle {r}: {:016x}", stamp::circle_stamp(r))
 }
 
 fn quad(
@@ -62,8 +29,8 @@ fn quad(
     requires third { Cornered (at x2 y2) }
     requires fourth { Cornered (at x3 y3) }
 {
-    corners(rt, x0, y0, x1, y1, x2, y2, x3, y3)?;
-    stamp(rt, stamp::polygon_stamp(x0, y0, x1, y1, x2, y2, x3, y3))
+    let bits = stamp::polygon_stamp(x0, y0, x1, y1, x2, y2, x3, y3);
+    println!(rt; "corners {x0} {y0} {x1} {y1} {x2} {y2} {x3} {y3}: {bits:016x}")
 }
 
 fn part(
@@ -77,17 +44,8 @@ fn part(
     requires columns { (1 ≤ columns) × (across + columns ≤ 8) }
     requires rows { (1 ≤ rows) × (down + rows ≤ 8) }
 {
-    show::text(rt, "part ")?;
-    show::hex(rt, bits, 16)?;
-    show::text(rt, " from ")?;
-    show::unsigned(rt, across)?;
-    show::text(rt, " ")?;
-    show::unsigned(rt, down)?;
-    show::text(rt, " ")?;
-    show::unsigned(rt, columns)?;
-    show::text(rt, " by ")?;
-    show::unsigned(rt, rows)?;
-    stamp(rt, stamp::cut(bits, across, down, columns, rows))
+    let part = stamp::cut(bits, across, down, columns, rows);
+    println!(rt; "part {bits:016x} from {across} {down} {columns} by {rows}: {part:016x}")
 }
 
 fn parts(rt: &impl Print) -> io::Result<()> {
