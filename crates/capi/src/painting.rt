@@ -1,6 +1,8 @@
 // The export of the paint call.
 ghost use Rattle.capi.specs.Painting.{SillbadgerPaintSays};
 
+use picture::Colour;
+
 // Blends a shape into the canvas, then updates the table over the shape's rows.
 #[unsafe(no_mangle)]
 pub extern "C" fn sillbadger_paint(
@@ -21,7 +23,14 @@ pub extern "C" fn sillbadger_paint(
     match o {
         Some(kind) => {
             let answer = paint::paint(
-                kind, opacity, red, green, blue, w as usize, h as usize, target, canvas, table,
+                kind,
+                opacity,
+                Colour { red, green, blue },
+                w as usize,
+                h as usize,
+                target,
+                canvas,
+                table,
             );
             refusal::number_of(answer)
         }

@@ -8,7 +8,7 @@ ghost use Rattle.capi.specs.Pictures.{
 };
 
 use crate::SillbadgerAnswer;
-use picture::{Mean, Total};
+use picture::Colour;
 
 // Fills 64 lent places with the opacity levels of a number of level bits; the unused are 0.
 #[unsafe(no_mangle)]
@@ -30,7 +30,8 @@ pub extern "C" fn sillbadger_fill(
 ) -> u8
     ensures { SillbadgerFillSays w h red green blue canvas.old result canvas.new }
 {
-    picture::filled_canvas(w as usize, h as usize, red, green, blue, canvas)
+    let colour = Colour { red, green, blue };
+    refusal::number_of(picture::filled_canvas(w as usize, h as usize, colour, canvas))
 }
 
 // The mean colour of a picture: red, green, blue.
@@ -38,16 +39,15 @@ pub extern "C" fn sillbadger_fill(
 pub extern "C" fn sillbadger_mean(w: u32, h: u32, target: &[f32]) -> SillbadgerAnswer
     ensures { SillbadgerMeanSays w h target.now result }
 {
-    let m = picture::mean_rgb(w as usize, h as usize, target);
-    match m {
-        Mean::Done(c) => {
+    match picture::mean_rgb(w as usize, h as usize, target) {
+        Ok(c) => {
             let mut a = crate::refused(0);
             a.red = c.red;
             a.green = c.green;
             a.blue = c.blue;
             a
         }
-        Mean::Refused(k) => crate::refused(k),
+        Err(e) => crate::refused(e.number()),
     }
 }
 
@@ -61,13 +61,12 @@ pub extern "C" fn sillbadger_total(
 ) -> SillbadgerAnswer
     ensures { SillbadgerTotalSays w h target.now canvas.now result }
 {
-    let t = picture::sse_total(w as usize, h as usize, target, canvas);
-    match t {
-        Total::Done(sum) => {
+    match picture::sse_total(w as usize, h as usize, target, canvas) {
+        Ok(sum) => {
             let mut a = crate::refused(0);
             a.total = sum;
             a
         }
-        Total::Refused(k) => crate::refused(k),
+        Err(e) => crate::refused(e.number()),
     }
 }

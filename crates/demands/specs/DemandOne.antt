@@ -33,8 +33,6 @@ use Rattle.grade.specs.AlphaSweep.{bad_levels, sweep_refusal, AlphaSweepSays}
 use Rattle.gather.specs.Gathered.{span_sums, point_sums}
 use Rattle.score.specs.Scoring.{bad_count, bad_opacity, score_at, span_refusal, point_refusal, collected, SpanScoreSays, PointScoreSays}
 use Rattle.picture.specs.declared.Colour.{Colour}
-use Rattle.picture.specs.declared.Mean.{Mean}
-use Rattle.picture.specs.declared.Total.{Total}
 use Rattle.picture.specs.Pixels.{bad_colour, filled, fill_refusal, mean_refusal, total_refusal, mean_answer, total_answer, FilledCanvasSays, MeanRgbSays, SseTotalSays}
 use Rattle.paint.specs.Paint.{paint_refusal, PaintSays}
 use Rattle.shapes.specs.declared.Shape.{Shape}
@@ -104,12 +102,12 @@ pub fill_refuses_as_tabled : (w h : ℕ) (red green blue : Float) (old : List Fl
 unfolding fill_refusal
 fill_refuses_as_tabled w h red green blue old r new p = p.number
 
-pub mean_refuses_as_tabled : (w h : ℕ) (target : List Float) (r : Mean) → MeanRgbSays w h target r
+pub mean_refuses_as_tabled : (w h : ℕ) (target : List Float) (r : Outcome Colour) → MeanRgbSays w h target r
     → (mean_answer r).number ≡ lowest (size_if (bad_size w h) ∷ length_if (bad_picture w h (length target)) ∷ pixel_if (not (all_within target)) ∷ [])
 unfolding mean_refusal
 mean_refuses_as_tabled w h target r p = ap (λ (a : Answer Colour). a.number) p
 
-pub total_refuses_as_tabled : (w h : ℕ) (target canvas : List Float) (r : Total) → SseTotalSays w h target canvas r
+pub total_refuses_as_tabled : (w h : ℕ) (target canvas : List Float) (r : Outcome Float) → SseTotalSays w h target canvas r
     → (total_answer r).number
     ≡ lowest
     (size_if (bad_size w h)

@@ -157,12 +157,12 @@ KeptState w h target s = Kept w h target s.canvas s.table
 
 module _ (w h : ℕ) (target : List Float) (c : Call) (s t : State) (step : Paints target c s t) (k : KeptState w h target s) where
   abbrev PaintedIn : ℕ → ℕ → Type 0
-  PaintedIn m n = Painted c.kind c.opacity c.red c.green c.blue m n target s.canvas s.table t.canvas t.table
+  PaintedIn m n = Painted c.kind c.opacity c.colour.red c.colour.green c.colour.blue m n target s.canvas s.table t.canvas t.table
 
   module _ (z : step.number ≡ 0) where
-    tests : paints.Passed c.kind c.opacity c.red c.green c.blue c.w c.h (length target) (length s.canvas) (length s.table)
+    tests : paints.Passed c.kind c.opacity c.colour.red c.colour.green c.colour.blue c.w c.h (length target) (length s.canvas) (length s.table)
     tests =
-        paints.passed c.kind c.opacity c.red c.green c.blue c.w c.h (length target) (length s.canvas) (length s.table) (sym step.says.answer ∙ z)
+        paints.passed c.kind c.opacity c.colour.red c.colour.green c.colour.blue c.w c.h (length target) (length s.canvas) (length s.table) (sym step.says.answer ∙ z)
 
     abbrev pictures : c.h * c.w * 3 ≡ h * w * 3
     pictures = sym tests.lengths.canvas-length ∙ k.canvas-size
@@ -185,7 +185,7 @@ module _ (w h : ℕ) (target : List Float) (c : Call) (s t : State) (step : Pain
     where
       by : Dec (step.number ≡ 0) → KeptState w h target t
       by (yes z) =
-          taken_kept c.kind c.opacity c.red c.green c.blue w h target s.canvas s.table t.canvas t.table k (taken z) step.single (tests z).opacity-within
+          taken_kept c.kind c.opacity c.colour.red c.colour.green c.colour.blue w h target s.canvas s.table t.canvas t.table k (taken z) step.single (tests z).opacity-within
           (tests z).colours
       by (no n) =
           subst (Kept w h target t.canvas) (sym (step.says.refused n).1)
@@ -202,7 +202,7 @@ module _ (w h : ℕ) (target : List Float) (c : Call) (s t : State) (step : Pain
         where
           by : Dec (step.number ≡ 0) → picture_of nan w t.canvas ch y x ≡ picture_of nan w s.canvas ch y x
           by (yes z) =
-              taken_spares c.kind c.opacity c.red c.green c.blue w h target s.canvas s.table t.canvas t.table k (taken z) ch y x d l m o
+              taken_spares c.kind c.opacity c.colour.red c.colour.green c.colour.blue w h target s.canvas s.table t.canvas t.table k (taken z) ch y x d l m o
           by (no n) = ap (λ (v : List Float). picture_of nan w v ch y x) (step.says.refused n).0
 
 -- ---- two calls, and a build afresh
@@ -219,10 +219,10 @@ pub two-done : (first second : Call) (w h : ℕ) (target canvas table between su
     → TwoCallsSays first second w h target canvas table (record { first = a; second = b; afresh = d }) newCanvas newTable newFresh
 two-done first second w h target canvas table between sums newCanvas newTable fresh newFresh a b d k room f g one two build = record {
   first-number = one.answer;
-  second-number = two.answer ∙ ap₂ (λ (m n : ℕ). paint_refusal second.kind second.opacity second.red second.green second.blue second.w second.h (length target) m n) canvases tables;
+  second-number = two.answer ∙ ap₂ (λ (m n : ℕ). paint_refusal second.kind second.opacity second.colour.red second.colour.green second.colour.blue second.w second.h (length target) m n) canvases tables;
   afresh_number = again.0;
   picture = after_is second target between sums newCanvas newTable (number_of b) two
-      ∙ ap₂ (λ (n : ℕ) (l : List Float). cond (eqb (paint_refusal second.kind second.opacity second.red second.green second.blue second.w second.h (length target) (length l) n) 0) (painted second.kind second.opacity second.red second.green second.blue second.w second.h l) l) tables (after_is first target canvas table between sums (number_of a) one);
+      ∙ ap₂ (λ (n : ℕ) (l : List Float). cond (eqb (paint_refusal second.kind second.opacity second.colour.red second.colour.green second.colour.blue second.w second.h (length target) (length l) n) 0) (painted second.kind second.opacity second.colour.red second.colour.green second.colour.blue second.w second.h l) l) tables (after_is first target canvas table between sums (number_of a) one);
   kept = after;
   afresh = again.1;
 }

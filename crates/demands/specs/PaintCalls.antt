@@ -20,11 +20,11 @@ use Rattle.demands.specs.declared.Numbers.{Numbers}
 -- ---- a call: its number, and what it promises
 abbrev pub call_refusal : Call → List Float → List Float → List Float → ℕ
 call_refusal c target canvas table =
-    paint_refusal c.kind c.opacity c.red c.green c.blue c.w c.h (length target) (length canvas) (length table)
+    paint_refusal c.kind c.opacity c.colour.red c.colour.green c.colour.blue c.w c.h (length target) (length canvas) (length table)
 
 abbrev pub CallSays : Call → List Float → List Float → List Float → ℕ → List Float → List Float → Type 0
 CallSays c target canvas table r newCanvas newTable =
-    PaintSays c.kind c.opacity c.red c.green c.blue c.w c.h target canvas table r newCanvas newTable
+    PaintSays c.kind c.opacity c.colour.red c.colour.green c.colour.blue c.w c.h target canvas table r newCanvas newTable
 
 -- what is lent to be written
 pub record State : Type 0 where
@@ -80,7 +80,7 @@ repeated (suc n) f v = f (repeated n f v)
 -- a picture after a call
 abbrev pub after_call : Call → List Float → List Float → List Float → List Float
 after_call c target canvas table =
-    cond (eqb (call_refusal c target canvas table) 0) (painted c.kind c.opacity c.red c.green c.blue c.w c.h canvas) canvas
+    cond (eqb (call_refusal c target canvas table) 0) (painted c.kind c.opacity c.colour.red c.colour.green c.colour.blue c.w c.h canvas) canvas
 
 pub record TwoCallsSays (first second : Call) (w h : ℕ) (target canvas table : List Float) (r : Numbers) (newCanvas newTable newFresh : List Float) : Type 0 where
   pub first-number : number_of r.first ≡ call_refusal first target canvas table

@@ -41,8 +41,6 @@ use Rattle.grade.specs.Answered.{answered}
 use Rattle.gather.specs.Gathered.{span_sums, point_sums}
 use Rattle.score.specs.Scoring.{score_at, span_refusal, point_refusal, SpanScoreSays, PointScoreSays}
 use Rattle.picture.specs.declared.Colour.{Colour}
-use Rattle.picture.specs.declared.Mean.{Mean}
-use Rattle.picture.specs.declared.Total.{Total}
 use Rattle.picture.specs.Painting.{blended}
 use Rattle.picture.specs.PaintingLaws.{painted-at}
 use Rattle.tally.specs.Tally.{channel_sum, total_of}
@@ -160,7 +158,7 @@ module _ (kind : Kind) (opacity red green blue : Float) (w h : ℕ) (target canv
       ap (λ (q : List Float). picture_of nan w q ch y x) (p.done refl).picture ∙ painted-at kind opacity red green blue w h canvas ch y x c l m
 
 -- "Total: difference in f32, widened, squared, added in f64 in slice order"
-pub total-by_the_rule : (w h : ℕ) (target canvas : List Float) (r : Total) → SseTotalSays w h target canvas r → total_refusal w h target canvas ≡ 0
+pub total-by_the_rule : (w h : ℕ) (target canvas : List Float) (r : Outcome Float) → SseTotalSays w h target canvas r → total_refusal w h target canvas ≡ 0
     → (total_answer r).value
     ≡ before nought ◌⊕◌ (λ i. (get_or target i nan ⊟ get_or canvas i nan) ⊗ (get_or target i nan ⊟ get_or canvas i nan)) (length target)
 unfolding total_of
@@ -172,7 +170,7 @@ abbrev mean_ruled : ℕ → ℕ → List Float → ℕ → Float
 mean_ruled w h target ch = narrowed (before nought ◌⊕◌ (λ i. get_or target (i * 3 + ch) nan) (h * w) ⊘ of_int binary64 (pos (h * w)))
 
 -- "Mean: f64 sums, divided by the pixel count, narrowed"
-pub mean_by_the_rule : (w h : ℕ) (target : List Float) (r : Mean) → MeanRgbSays w h target r → mean_refusal w h target ≡ 0
+pub mean_by_the_rule : (w h : ℕ) (target : List Float) (r : Outcome Colour) → MeanRgbSays w h target r → mean_refusal w h target ≡ 0
     → ((mean_answer r).value.red ≡ mean_ruled w h target 0) × ((mean_answer r).value.green ≡ mean_ruled w h target 1) × ((mean_answer r).value.blue ≡ mean_ruled w h target 2)
 unfolding mean_of channel_mean channel_sum
 mean_by_the_rule w h target r p z =

@@ -6,6 +6,7 @@ ghost use Rattle.refusal.specs.Outcomes.{number_of};
 ghost use Rattle.demands.specs.PaintCalls.{CallSays, Kept, TwoCallsSays};
 
 use cover::Kind;
+use picture::Colour;
 use refusal::Refusal;
 
 // A paint call: shape, opacity, colour, and its own sizes.
@@ -13,9 +14,7 @@ use refusal::Refusal;
 pub struct Call {
     pub kind: Kind,
     pub opacity: f32,
-    pub red: f32,
-    pub green: f32,
-    pub blue: f32,
+    pub colour: Colour,
     pub w: usize,
     pub h: usize,
 }
@@ -57,7 +56,5 @@ fn run_call(c: Call, target: &[f32], canvas: &mut [f32], table: &mut [f64]) -> R
     ensures { CallSays c target.now canvas.old table.old (number_of result) canvas.new table.new }
 {
     let kind = c.kind;
-    paint::paint(
-        kind, c.opacity, c.red, c.green, c.blue, c.w, c.h, target, canvas, table,
-    )
+    paint::paint(kind, c.opacity, c.colour, c.w, c.h, target, canvas, table)
 }

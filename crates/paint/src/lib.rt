@@ -10,6 +10,7 @@ ghost use Rattle.table.specs.Table.{lengths_refusal};
 ghost use Rattle.paint.specs.Paint.{paint_refusal, Painted, PaintSays};
 
 use cover::{Kind, Reach};
+use picture::Colour;
 use refusal::Refusal;
 
 // Refusals: size, a length, place, opacity, colour; then no number of `canvas` or `table` has changed. A usual call is tested in one
@@ -17,23 +18,19 @@ use refusal::Refusal;
 pub fn paint(
     kind: Kind,
     opacity: f32,
-    red: f32,
-    green: f32,
-    blue: f32,
+    colour: Colour,
     w: usize,
     h: usize,
     target: &[f32],
     canvas: &mut [f32],
     table: &mut [f64],
 ) -> Result<(), Refusal>
-    ensures { PaintSays kind opacity red green blue w h target.now canvas.old table.old (number_of result) canvas.new table.new }
+    ensures { PaintSays kind opacity colour.red colour.green colour.blue w h target.now canvas.old table.old (number_of result) canvas.new table.new }
 {
     if usual(
         kind,
         opacity,
-        red,
-        green,
-        blue,
+        colour,
         w,
         h,
         target.len(),
@@ -48,11 +45,11 @@ pub fn paint(
             return Ok(());
         }
         let same = anew(kind);
-        paint_both(same, opacity, red, green, blue, w, h, target, canvas, table);
+        paint_both(same, opacity, colour, w, h, target, canvas, table);
         return Ok(());
     }
     let same = anew(kind);
-    tested_paint(same, opacity, red, green, blue, w, h, target, canvas, table)
+    tested_paint(same, opacity, colour, w, h, target, canvas, table)
 }
 
 // The same shape, made anew: what is handed on goes through memory, and so a call that hands nothing on does not.
@@ -70,51 +67,45 @@ fn anew(kind: Kind) -> Kind
 fn usual(
     kind: Kind,
     opacity: f32,
-    red: f32,
-    green: f32,
-    blue: f32,
+    colour: Colour,
     w: usize,
     h: usize,
     target: usize,
     canvas: usize,
     table: usize,
 ) -> bool
-    ensures { result ≡ true → paint_refusal kind opacity red green blue w h target canvas table ≡ 0 }
+    ensures { result ≡ true → paint_refusal kind opacity colour.red colour.green colour.blue w h target canvas table ≡ 0 }
 {
     if table::lengths_tested(w, h, target, canvas, table).is_err() {
         return false;
     }
-    float::within(opacity) & !picture::bad_colour(red, green, blue) & !cover::bad_places(kind)
+    float::within(opacity) & !picture::bad_colour(colour) & !cover::bad_places(kind)
 }
 
 // The same with the tests in order.
 fn tested_paint(
     kind: Kind,
     opacity: f32,
-    red: f32,
-    green: f32,
-    blue: f32,
+    colour: Colour,
     w: usize,
     h: usize,
     target: &[f32],
     canvas: &mut [f32],
     table: &mut [f64],
 ) -> Result<(), Refusal>
-    ensures { PaintSays kind opacity red green blue w h target.now canvas.old table.old (number_of result) canvas.new table.new }
+    ensures { PaintSays kind opacity colour.red colour.green colour.blue w h target.now canvas.old table.old (number_of result) canvas.new table.new }
 {
     tested(
         kind,
         opacity,
-        red,
-        green,
-        blue,
+        colour,
         w,
         h,
         target.len(),
         canvas.len(),
         table.len(),
     )?;
-    paint_both(kind, opacity, red, green, blue, w, h, target, canvas, table);
+    paint_both(kind, opacity, colour, w, h, target, canvas, table);
     Ok(())
 }
 
@@ -122,16 +113,14 @@ fn tested_paint(
 fn tested(
     kind: Kind,
     opacity: f32,
-    red: f32,
-    green: f32,
-    blue: f32,
+    colour: Colour,
     w: usize,
     h: usize,
     target: usize,
     canvas: usize,
     table: usize,
 ) -> Result<(), Refusal>
-    ensures { number_of result ≡ paint_refusal kind opacity red green blue w h target canvas table }
+    ensures { number_of result ≡ paint_refusal kind opacity colour.red colour.green colour.blue w h target canvas table }
 {
     table::lengths_tested(w, h, target, canvas, table)?;
     if cover::bad_places(kind) {
@@ -140,7 +129,7 @@ fn tested(
     if !float::within(opacity) {
         return Err(Refusal::Opacity);
     }
-    if picture::bad_colour(red, green, blue) {
+    if picture::bad_colour(colour) {
         return Err(Refusal::Colour);
     }
     Ok(())
@@ -150,9 +139,7 @@ fn tested(
 fn paint_both(
     kind: Kind,
     opacity: f32,
-    red: f32,
-    green: f32,
-    blue: f32,
+    colour: Colour,
     w: usize,
     h: usize,
     target: &[f32],
@@ -161,10 +148,10 @@ fn paint_both(
 )
     requires sizes { lengths_refusal w h (length target.now) (length canvas.old) (length table.old) ≡ 0 }
     requires places { bad_places kind ≡ false }
-    ensures { Painted kind opacity red green blue w h target.now canvas.old table.old canvas.new table.new }
+    ensures { Painted kind opacity colour.red colour.green colour.blue w h target.now canvas.old table.old canvas.new table.new }
 {
     let reach = cover::row_reach(kind, h);
-    blend_reached(kind, opacity, red, green, blue, w, h, reach, canvas);
+    blend_reached(kind, opacity, colour, w, h, reach, canvas);
     let _ = table::update_canvas_rows(target, canvas, w, h, table, reach.first, reach.last);
 }
 
@@ -172,9 +159,7 @@ fn paint_both(
 fn blend_reached(
     kind: Kind,
     opacity: f32,
-    red: f32,
-    green: f32,
-    blue: f32,
+    colour: Colour,
     w: usize,
     h: usize,
     reach: Reach,
@@ -184,11 +169,11 @@ fn blend_reached(
     requires places { bad_places kind ≡ false }
     requires picture { length canvas.old ≡ h * w * 3 }
     requires rows { RowReachSays kind h reach }
-    ensures { BlendSays kind opacity red green blue w h canvas.old canvas.new }
+    ensures { BlendSays kind opacity colour.red colour.green colour.blue w h canvas.old canvas.new }
 {
     let first = reach.first;
     let last = reach.last;
     if first <= last {
-        picture::blend(kind, opacity, red, green, blue, w, h, canvas);
+        picture::blend(kind, opacity, colour, w, h, canvas);
     }
 }

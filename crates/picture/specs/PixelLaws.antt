@@ -1,6 +1,7 @@
 -- Laws: the steps of fill; a filled picture; what the sums of a mean and a total answer; each promise has one answer.
-use Rattle.std.specs.Prelude.{◌≡◌, refl, Bool, true, false, not, ◌&&◌, ◌||◌, cond, List, [], ◌∷◌, ℕ, zero, suc, ◌+◌, ◌*◌, ◌/◌, ◌%◌, ◌≤◌, ◌<◌, T, eqb, length, get_or, set, pos, Float}
+use Rattle.std.specs.Prelude.{◌≡◌, refl, Bool, true, false, not, ◌&&◌, ◌||◌, cond, List, [], ◌∷◌, ℕ, zero, suc, ◌+◌, ◌*◌, ◌/◌, ◌%◌, ◌≤◌, ◌<◌, T, eqb, length, get_or, set, pos, Float, Option, None, Some}
 use Rattle.std.proofs.Common.{sym, ap, ◌∙◌, ⊎_elim, true≢false, mul-le-mul, div-add-mod', mod-lt, arith, length-set, get_or-set_same, get_or-set_other}
+use Rattle.std.specs.Option.{ok_or}
 use Rattle.std.specs.Float.{nan, binary64}
 use Rattle.std.specs.Float.Ieee.{of_int}
 use Rattle.std.specs.Float.Ieee.Fits.{and_l, and_r}
@@ -13,22 +14,16 @@ use Rattle.laws.specs.StrokeLaws.{le-or-lt}
 use Rattle.float.specs.Within.{nought, within, all_within}
 use Rattle.float.specs.Narrowed.{narrowed}
 use Rattle.refusal.specs.Refusals.{Sized, bad_size, lowest, size_if, length_if, pixel_if}
+use Rattle.refusal.specs.declared.Refusal.TheVariants.{Pixel}
+use Rattle.refusal.specs.Outcomes.{Outcome, Done, Refused, outcome}
 use Rattle.refusal.specs.Lengths.{bad_picture}
 use Rattle.refusal.specs.LengthLaws.{picture_length}
 use Rattle.refusal.specs.RefusalLaws.{sized}
 use Rattle.refusal.specs.ThreeTests.{passed, two-passed, at-third, at_none}
 use Rattle.tally.specs.declared.means.Sums.{Sums}
-use Rattle.tally.specs.declared.means.Summed.{Summed}
-use Rattle.tally.specs.declared.means.Summed.TheVariants as summed
-use Rattle.tally.specs.declared.totals.Totalled.{Totalled}
-use Rattle.tally.specs.declared.totals.Totalled.TheVariants as totalled
 use Rattle.tally.specs.Tally.{sums_to, SumsWithinSays, ShareSays, total_of, TotalWithinSays}
 use Rattle.tally.specs.TallyLaws.{sums_are}
 use Rattle.picture.specs.declared.Colour.{Colour}
-use Rattle.picture.specs.declared.Mean.{Mean}
-use Rattle.picture.specs.declared.Mean.TheVariants as mean
-use Rattle.picture.specs.declared.Total.{Total}
-use Rattle.picture.specs.declared.Total.TheVariants as total
 use Rattle.picture.specs.Strokes.{pixel_put, pair_put, pixel_colour, Coloured}
 use Rattle.picture.specs.Pixels.{bad_colour, BadColourSays, filled, fill_refusal, FillSays, FilledCanvasSays, channel_mean, no_colour, mean_of, mean_refusal, mean_answer, MeanRgbSays, total_refusal, total_answer, SseTotalSays, TotalAnySays}
 
@@ -46,27 +41,24 @@ FilledCanvasSays-unique w h red green blue old r s new also p q =
     (e, p.left ∙ ap (λ (k : ℕ). cond (eqb k 0) (filled w h red green blue) old) e ∙ sym q.left)
 
 -- an answer's number and value, and whether it is done, give the answer back
-mean_back : Answer Colour → Mean
-mean_back a = cond a.done (mean.Done a.value) (mean.Refused a.number)
+back : {A : Type 0} → Answer A → Outcome A
+back a = cond a.done (Done a.value) (Refused a.number)
 
-mean_same : (r : Mean) → mean_back (mean_answer r) ≡ r
-unfolding mean_back
-mean_same (mean.Done c) = refl
-mean_same (mean.Refused k) = refl
+mean_same : (o : Outcome Colour) → back (mean_answer o) ≡ o
+unfolding back
+mean_same (Done c) = refl
+mean_same (Refused k) = refl
 
-pub MeanRgbSays-unique : (w h : ℕ) (target : List Float) (r s : Mean) → MeanRgbSays w h target r → MeanRgbSays w h target s → r ≡ s
-MeanRgbSays-unique w h target r s p q = sym (mean_same r) ∙ ap mean_back (p ∙ sym q) ∙ mean_same s
+pub MeanRgbSays-unique : (w h : ℕ) (target : List Float) (r s : Outcome Colour) → MeanRgbSays w h target r → MeanRgbSays w h target s → r ≡ s
+MeanRgbSays-unique w h target r s p q = sym (mean_same r) ∙ ap back (p ∙ sym q) ∙ mean_same s
 
-total_back : Answer Float → Total
-total_back a = cond a.done (total.Done a.value) (total.Refused a.number)
+total_same : (o : Outcome Float) → back (total_answer o) ≡ o
+unfolding back
+total_same (Done t) = refl
+total_same (Refused k) = refl
 
-total_same : (r : Total) → total_back (total_answer r) ≡ r
-unfolding total_back
-total_same (total.Done t) = refl
-total_same (total.Refused k) = refl
-
-pub SseTotalSays-unique : (w h : ℕ) (target canvas : List Float) (r s : Total) → SseTotalSays w h target canvas r → SseTotalSays w h target canvas s → r ≡ s
-SseTotalSays-unique w h target canvas r s p q = sym (total_same r) ∙ ap total_back (p ∙ sym q) ∙ total_same s
+pub SseTotalSays-unique : (w h : ℕ) (target canvas : List Float) (r s : Outcome Float) → SseTotalSays w h target canvas r → SseTotalSays w h target canvas s → r ≡ s
+SseTotalSays-unique w h target canvas r s p q = sym (total_same r) ∙ ap back (p ∙ sym q) ∙ total_same s
 
 pub TotalAnySays-unique : (target canvas : List Float) (r s : Float) → TotalAnySays target canvas r → TotalAnySays target canvas s → r ≡ s
 TotalAnySays-unique target canvas r s p q = p ∙ sym q
@@ -166,31 +158,31 @@ colour_shared n s = record {
   blue = narrowed (s.blue ⊘ of_int binary64 (pos n));
 }
 
-abbrev mean_of_lem : ℕ → Summed → Mean
-mean_of_lem n (summed.Of s) = mean.Done (colour_shared n s)
-mean_of_lem n summed.Beyond = mean.Refused 7
+abbrev mean_of_lem : ℕ → Option Sums → Outcome Colour
+mean_of_lem n (Some s) = Done (colour_shared n s)
+mean_of_lem n None = Refused 7
 
 mean_right : (w h : ℕ) (target : List Float) → colour_shared (h * w) (sums_to target (h * w)) ≡ mean_of w h target
 unfolding mean_of channel_mean
 mean_right w h target = ap (colour_shared (h * w)) (sums_are target (h * w))
 
-module _ (w h : ℕ) (target : List Float) (r : Summed) (says : SumsWithinSays target (h * w) r) where
+module _ (w h : ℕ) (target : List Float) (r : Option Sums) (says : SumsWithinSays target (h * w) r) where
   answered : mean_answer (mean_of_lem (h * w) r) ≡ answer (cond (all_within target) 0 7) (mean_of w h target) no_colour
-  answered = ap (λ (t : Summed). mean_answer (mean_of_lem (h * w) t)) says ∙ by (all_within target) ∙ ap (λ (c : Colour). answer (cond (all_within target) 0 7) c no_colour) (mean_right w h target)
+  answered = ap (λ (t : Option Sums). mean_answer (mean_of_lem (h * w) t)) says ∙ by (all_within target) ∙ ap (λ (c : Colour). answer (cond (all_within target) 0 7) c no_colour) (mean_right w h target)
     where
-      by : (b : Bool) → mean_answer (mean_of_lem (h * w) (cond b (summed.Of (sums_to target (h * w))) summed.Beyond)) ≡ answer (cond b 0 7) (colour_shared (h * w) (sums_to target (h * w))) no_colour
+      by : (b : Bool) → mean_answer (mean_of_lem (h * w) (cond b (Some (sums_to target (h * w))) None)) ≡ answer (cond b 0 7) (colour_shared (h * w) (sums_to target (h * w))) no_colour
       by true = refl
       by false = refl
 
-  pub mean_done : (s : Sums) (red green blue : Float) → r ≡ summed.Of s → ShareSays s.red (h * w) red → ShareSays s.green (h * w) green → ShareSays s.blue (h * w) blue
-      → mean_answer (mean.Done (record { red = red; green = green; blue = blue })) ≡ answer (cond (all_within target) 0 7) (mean_of w h target) no_colour
+  pub mean_done : (s : Sums) (red green blue : Float) → r ≡ Some s → ShareSays s.red (h * w) red → ShareSays s.green (h * w) green → ShareSays s.blue (h * w) blue
+      → mean_answer (Done (record { red = red; green = green; blue = blue })) ≡ answer (cond (all_within target) 0 7) (mean_of w h target) no_colour
   mean_done s red green blue e p q u =
-      ap (λ (c : Colour). mean_answer (mean.Done c)) (colour_same red green blue _ _ _ p q u)
-      ∙ ap (λ (t : Summed). mean_answer (mean_of_lem (h * w) t)) (sym e)
+      ap (λ (c : Colour). mean_answer (Done c)) (colour_same red green blue _ _ _ p q u)
+      ∙ ap (λ (t : Option Sums). mean_answer (mean_of_lem (h * w) t)) (sym e)
       ∙ answered
 
-  pub mean_beyond : r ≡ summed.Beyond → mean_answer (mean.Refused 7) ≡ answer (cond (all_within target) 0 7) (mean_of w h target) no_colour
-  mean_beyond e = ap (λ (t : Summed). mean_answer (mean_of_lem (h * w) t)) (sym e) ∙ answered
+  pub mean_beyond : r ≡ None → mean_answer (Refused 7) ≡ answer (cond (all_within target) 0 7) (mean_of w h target) no_colour
+  mean_beyond e = ap (λ (t : Option Sums). mean_answer (mean_of_lem (h * w) t)) (sym e) ∙ answered
 
 pub few_pixels : (w h : ℕ) → Sized w h → h * w ≤ 65536
 few_pixels w h s = mul-le-mul s.h_high s.w_high
@@ -242,14 +234,10 @@ pixels-last w h target canvas e =
     either false b = refl
 
 -- ---- total, of what the sum says
-abbrev total_of_lem : Totalled → Total
-total_of_lem (totalled.Of s) = total.Done s
-total_of_lem totalled.Beyond = total.Refused 7
-
-pub total_told_lem : (target canvas : List Float) (r t : Totalled) → TotalWithinSays target canvas r → r ≡ t
-    → total_answer (total_of_lem t) ≡ answer (cond (all_within target && all_within canvas) 0 7) (total_of target canvas) nought
-total_told_lem target canvas r t says e = ap (λ (u : Totalled). total_answer (total_of_lem u)) (sym e ∙ says) ∙ by (all_within target && all_within canvas)
+pub total_told_lem : (target canvas : List Float) (r : Option Float) → TotalWithinSays target canvas r
+    → total_answer (outcome (ok_or r Pixel)) ≡ answer (cond (all_within target && all_within canvas) 0 7) (total_of target canvas) nought
+total_told_lem target canvas r says = ap (λ (u : Option Float). total_answer (outcome (ok_or u Pixel))) says ∙ by (all_within target && all_within canvas)
   where
-    by : (b : Bool) → total_answer (total_of_lem (cond b (totalled.Of (total_of target canvas)) totalled.Beyond)) ≡ answer (cond b 0 7) (total_of target canvas) nought
+    by : (b : Bool) → total_answer (outcome (ok_or (cond b (Some (total_of target canvas)) None) Pixel)) ≡ answer (cond b 0 7) (total_of target canvas) nought
     by true = refl
     by false = refl

@@ -8,13 +8,10 @@ use Rattle.laws.specs.Pictures.{list_of, plain}
 use Rattle.float.specs.Narrowed.{narrowed}
 use Rattle.float.specs.Within.{nought, within, all_within}
 use Rattle.refusal.specs.Refusals.{lowest, size_if, length_if, colour_if, pixel_if, bad_size}
+use Rattle.refusal.specs.Outcomes.{Outcome, Done, Refused}
 use Rattle.refusal.specs.Lengths.{bad_picture}
 use Rattle.tally.specs.Tally.{channel_sum, total_of}
 use Rattle.picture.specs.declared.Colour.{Colour}
-use Rattle.picture.specs.declared.Mean.{Mean}
-use Rattle.picture.specs.declared.Mean.TheVariants as mean
-use Rattle.picture.specs.declared.Total.{Total}
-use Rattle.picture.specs.declared.Total.TheVariants as total
 
 -- ---- a colour channel is not within 0..1
 unfoldable pub bad_colour : Float → Float → Float → Bool
@@ -57,11 +54,11 @@ mean_refusal w h target =
 abbrev pub no_colour : Colour
 no_colour = record { red = nought; green = nought; blue = nought }
 
-abbrev pub mean_answer : Mean → Answer Colour
-mean_answer (mean.Done c) = record { number = 0; value = c; done = true }
-mean_answer (mean.Refused k) = record { number = k; value = no_colour; done = false }
+abbrev pub mean_answer : Outcome Colour → Answer Colour
+mean_answer (Done c) = record { number = 0; value = c; done = true }
+mean_answer (Refused k) = record { number = k; value = no_colour; done = false }
 
-abbrev pub MeanRgbSays : ℕ → ℕ → List Float → Mean → Type 0
+abbrev pub MeanRgbSays : ℕ → ℕ → List Float → Outcome Colour → Type 0
 MeanRgbSays w h target r = mean_answer r ≡ answer (mean_refusal w h target) (mean_of w h target) no_colour
 
 -- ---- total: the sum of the squared differences, in slice order
@@ -73,11 +70,11 @@ total_refusal w h target canvas =
     ∷ pixel_if (not (all_within target) || not (all_within canvas))
     ∷ [])
 
-abbrev pub total_answer : Total → Answer Float
-total_answer (total.Done t) = record { number = 0; value = t; done = true }
-total_answer (total.Refused k) = record { number = k; value = nought; done = false }
+abbrev pub total_answer : Outcome Float → Answer Float
+total_answer (Done t) = record { number = 0; value = t; done = true }
+total_answer (Refused k) = record { number = k; value = nought; done = false }
 
-abbrev pub SseTotalSays : ℕ → ℕ → List Float → List Float → Total → Type 0
+abbrev pub SseTotalSays : ℕ → ℕ → List Float → List Float → Outcome Float → Type 0
 SseTotalSays w h target canvas r = total_answer r ≡ answer (total_refusal w h target canvas) (total_of target canvas) nought
 
 -- without the tests, for our own crates: of any numbers

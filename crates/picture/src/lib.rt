@@ -1,24 +1,21 @@
 // Pictures: fill, mean, total, and shapes blended into them.
 #![tactic(auto)]
 
-ghost use Rattle.std.specs.Prelude.{◌≡◌, cond, false, ◌&&◌, ◌||◌, [], ◌∷◌, ◌+◌, ◌*◌, ◌≤◌, length};
-ghost use Rattle.laws.specs.Answer.{answer};
+ghost use Rattle.std.specs.Prelude.{◌≡◌, false, ◌||◌, [], ◌∷◌, ◌+◌, ◌*◌, ◌≤◌, length};
 ghost use Rattle.laws.specs.Strokes.{RunsWithin};
-ghost use Rattle.float.specs.Within.{all_within, nought};
 ghost use Rattle.refusal.specs.Refusals.{Sized, lowest, size_if, length_if, bad_size};
+ghost use Rattle.refusal.specs.Outcomes.{number_of, outcome};
 ghost use Rattle.refusal.specs.Lengths.{bad_picture};
-ghost use Rattle.tally.specs.Tally.{total_of};
 ghost use Rattle.cover.specs.Cover.{bad_places};
 ghost use Rattle.picture.specs.declared.Colour.{Colour};
 ghost use Rattle.picture.specs.Painting.{BlendSays};
 ghost use Rattle.picture.specs.Strokes.{brushed_part, brushed_rows, pixel_colour, Coloured, pair_put, pixel_put, RowsWithin};
-ghost use Rattle.picture.specs.Pixels.{BadColourSays, FillSays, FilledCanvasSays, fill_refusal, mean_answer, mean_of, MeanRgbSays, no_colour, SseTotalSays, total_answer, TotalAnySays};
+ghost use Rattle.picture.specs.Pixels.{BadColourSays, FillSays, FilledCanvasSays, MeanRgbSays, SseTotalSays, TotalAnySays};
 
 use brush::Brush;
 use cover::Kind;
 use cover::reached::Rows;
-use tally::means::Summed;
-use tally::totals::Totalled;
+use refusal::Refusal;
 
 #[derive(Clone, Copy)]
 pub struct Colour {
@@ -27,71 +24,46 @@ pub struct Colour {
     pub blue: f32,
 }
 
-#[derive(Clone, Copy)]
-pub enum Mean {
-    Done(Colour),
-    Refused(u8),
-}
-
-#[derive(Clone, Copy)]
-pub enum Total {
-    Done(f64),
-    Refused(u8),
-}
-
 // A colour channel is not within 0..1.
-pub fn bad_colour(red: f32, green: f32, blue: f32) -> bool
-    ensures { BadColourSays red green blue result }
+pub fn bad_colour(colour: Colour) -> bool
+    ensures { BadColourSays colour.red colour.green colour.blue result }
 {
-    !(float::within(red) & float::within(green) & float::within(blue))
+    !(float::within(colour.red) & float::within(colour.green) & float::within(colour.blue))
 }
 
 // Size, then length.
-fn refused(w: usize, h: usize, n: usize) -> u8
-    ensures { result ≡ lowest (size_if (bad_size w h) ∷ length_if (bad_picture w h n) ∷ []) }
+fn tested(w: usize, h: usize, n: usize) -> Result<(), Refusal>
+    ensures { number_of result ≡ lowest (size_if (bad_size w h) ∷ length_if (bad_picture w h n) ∷ []) }
 {
     if refusal::bad_size(w, h) {
-        return refusal::SIZE;
+        return Err(Refusal::Size);
     }
     if refusal::bad_picture(w, h, n) {
-        return refusal::LENGTH;
+        return Err(Refusal::Length);
     }
-    0
+    Ok(())
 }
 
 // ---- fill
 
-// Every pixel gets the colour. Refusals: 1 size, 2 length, 6 colour; 0 is done.
-pub fn filled_canvas(w: usize, h: usize, red: f32, green: f32, blue: f32, canvas: &mut [f32]) -> u8
-    ensures { FilledCanvasSays w h red green blue canvas.old result canvas.new }
+// Every pixel gets the colour. Refusals: size, length, colour.
+pub fn filled_canvas(w: usize, h: usize, colour: Colour, canvas: &mut [f32]) -> Result<(), Refusal>
+    ensures { FilledCanvasSays w h colour.red colour.green colour.blue canvas.old (number_of result) canvas.new }
 {
-    let number = fill_refusal(w, h, red, green, blue, canvas.len());
-    if number == 0 {
-        fill(w, h, red, green, blue, canvas);
+    tested(w, h, canvas.len())?;
+    if bad_colour(colour) {
+        return Err(Refusal::Colour);
     }
-    number
-}
-
-fn fill_refusal(w: usize, h: usize, red: f32, green: f32, blue: f32, n: usize) -> u8
-    ensures { result ≡ fill_refusal w h red green blue n }
-{
-    let number = refused(w, h, n);
-    if number != 0 {
-        return number;
-    }
-    if bad_colour(red, green, blue) {
-        return refusal::COLOUR;
-    }
-    0
+    fill(w, h, colour, canvas);
+    Ok(())
 }
 
 // The same without the tests, for any colour bits: the first 16 pixels, then four at a time, then those that are left.
-pub fn fill(w: usize, h: usize, red: f32, green: f32, blue: f32, canvas: &mut [f32])
+pub fn fill(w: usize, h: usize, colour: Colour, canvas: &mut [f32])
     requires { length canvas.old ≡ h * w * 3 }
-    ensures { FillSays w h red green blue canvas.new }
+    ensures { FillSays w h colour.red colour.green colour.blue canvas.new }
 {
     let n = h * w;
-    let colour = Colour { red, green, blue };
     let begun = whole::min_usize(n, 16);
     put_each(0, begun, colour, canvas);
     if n <= 16 {
@@ -164,70 +136,38 @@ fn put(i: usize, colour: Colour, canvas: &mut [f32])
 
 // ---- mean
 
-// The mean of each channel, summed in f64 in the pixels' order. Refusals: 1 size, 2 length, 7 pixel.
-pub fn mean_rgb(w: usize, h: usize, target: &[f32]) -> Mean
-    ensures { MeanRgbSays w h target.now result }
+// The mean of each channel, summed in f64 in the pixels' order. Refusals: size, length, pixel.
+pub fn mean_rgb(w: usize, h: usize, target: &[f32]) -> Result<Colour, Refusal>
+    ensures { MeanRgbSays w h target.now (outcome result) }
 {
-    let number = refused(w, h, target.len());
-    if number == 0 {
-        mean_tested(w, h, target)
-    } else {
-        Mean::Refused(number)
-    }
-}
-
-// Then the pixels.
-fn mean_tested(w: usize, h: usize, target: &[f32]) -> Mean
-    requires { Sized w h × (length target.now ≡ h * w * 3) }
-    ensures { mean_answer result ≡ answer (cond (all_within target.now) 0 7) (mean_of w h target.now) no_colour }
-{
+    tested(w, h, target.len())?;
     let n = h * w;
-    let summed = tally::means::sums_within(target, n);
-    match summed {
-        Summed::Of(sums) => Mean::Done(Colour {
+    match tally::means::sums_within(target, n) {
+        Some(sums) => Ok(Colour {
             red: tally::means::share(sums.red, n),
             green: tally::means::share(sums.green, n),
             blue: tally::means::share(sums.blue, n),
         }),
-        Summed::Beyond => Mean::Refused(refusal::PIXEL),
+        None => Err(Refusal::Pixel),
     }
 }
 
 // ---- total
 
-// The squared differences of two pictures, summed in f64 in slice order. Refusals: 1 size, 2 length, 7 pixel.
-pub fn sse_total(w: usize, h: usize, target: &[f32], canvas: &[f32]) -> Total
-    ensures { SseTotalSays w h target.now canvas.now result }
+// The squared differences of two pictures, summed in f64 in slice order. Refusals: size, length, pixel.
+pub fn sse_total(w: usize, h: usize, target: &[f32], canvas: &[f32]) -> Result<f64, Refusal>
+    ensures { SseTotalSays w h target.now canvas.now (outcome result) }
 {
-    let number = total_refusal(w, h, target.len(), canvas.len());
-    if number == 0 {
-        total_tested(target, canvas)
-    } else {
-        Total::Refused(number)
-    }
+    lengths_tested(w, h, target.len(), canvas.len())?;
+    tally::totals::total_within(target, canvas).ok_or(Refusal::Pixel)
 }
 
 // Size and lengths.
-fn total_refusal(w: usize, h: usize, n: usize, m: usize) -> u8
-    ensures { result ≡ lowest (size_if (bad_size w h) ∷ length_if (bad_picture w h n || bad_picture w h m) ∷ []) }
+fn lengths_tested(w: usize, h: usize, n: usize, m: usize) -> Result<(), Refusal>
+    ensures { number_of result ≡ lowest (size_if (bad_size w h) ∷ length_if (bad_picture w h n || bad_picture w h m) ∷ []) }
 {
-    let number = refused(w, h, n);
-    if number != 0 {
-        return number;
-    }
-    refused(w, h, m)
-}
-
-// Then the pixels.
-fn total_tested(target: &[f32], canvas: &[f32]) -> Total
-    requires { length target.now ≡ length canvas.now }
-    ensures { total_answer result ≡ answer (cond (all_within target.now && all_within canvas.now) 0 7) (total_of target.now canvas.now) nought }
-{
-    let totalled = tally::totals::total_within(target, canvas);
-    match totalled {
-        Totalled::Of(sum) => Total::Done(sum),
-        Totalled::Beyond => Total::Refused(refusal::PIXEL),
-    }
+    tested(w, h, n)?;
+    tested(w, h, m)
 }
 
 // A total without the tests, for any bits.
@@ -247,20 +187,11 @@ pub fn total_any(target: &[f32], canvas: &[f32]) -> f64
 
 // Every covered channel becomes m * old + a * colour, m = 1 - a, in f32; all others stay. For any picture, opacity and
 // colour bits. Sizes, places and the picture's length were tested.
-pub fn blend(
-    kind: Kind,
-    opacity: f32,
-    red: f32,
-    green: f32,
-    blue: f32,
-    w: usize,
-    h: usize,
-    canvas: &mut [f32],
-)
+pub fn blend(kind: Kind, opacity: f32, colour: Colour, w: usize, h: usize, canvas: &mut [f32])
     requires sizes { Sized w h }
     requires places { bad_places kind ≡ false }
     requires picture { length canvas.old ≡ h * w * 3 }
-    ensures { BlendSays kind opacity red green blue w h canvas.old canvas.new }
+    ensures { BlendSays kind opacity colour.red colour.green colour.blue w h canvas.old canvas.new }
 {
     let rows = cover::reached::reach_rows(kind, w, h);
     if rows.bottom <= rows.top {
@@ -268,7 +199,7 @@ pub fn blend(
     }
     let mut runs = [0u16; 512];
     cover::runs(kind, w, h, &mut runs);
-    let brush = brush::brush_of(opacity, red, green, blue);
+    let brush = brush::brush_of(opacity, colour.red, colour.green, colour.blue);
     blend_rows(brush, &runs, rows, w, h, canvas);
 }
 

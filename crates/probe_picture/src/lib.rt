@@ -2,6 +2,7 @@
 #![tactic(auto)]
 
 ghost use Rattle.std.specs.Prelude.{◌≡◌, length};
+ghost use Rattle.refusal.specs.Outcomes.{number, number_of};
 ghost use Rattle.cover.specs.Cover.{refusal_of};
 ghost use Rattle.probe_picture.specs.Probes.{
   blend_refusal,
@@ -16,7 +17,8 @@ ghost use Rattle.probe_picture.specs.Probes.{
 };
 
 use cover::Kind;
-use picture::{Mean, Total};
+use picture::Colour;
+use refusal::Refusal;
 
 #[repr(C)]
 #[derive(Clone, Copy)]
@@ -42,32 +44,24 @@ pub struct ProbedReach {
     pub last: i32,
 }
 
-pub fn probe_filled_canvas(
-    w: usize,
-    h: usize,
-    red: f32,
-    green: f32,
-    blue: f32,
-    canvas: &mut [f32],
-) -> u8
-    ensures { ProbeFilledCanvasSays w h red green blue canvas.old result canvas.new }
+pub fn probe_filled_canvas(w: usize, h: usize, colour: Colour, canvas: &mut [f32]) -> u8
+    ensures { ProbeFilledCanvasSays w h colour.red colour.green colour.blue canvas.old result canvas.new }
 {
-    picture::filled_canvas(w, h, red, green, blue, canvas)
+    refusal::number_of(picture::filled_canvas(w, h, colour, canvas))
 }
 
 pub fn probe_mean_rgb(w: usize, h: usize, target: &[f32]) -> ProbedMean
     ensures { ProbeMeanRgbSays w h target.now result }
 {
-    let m = picture::mean_rgb(w, h, target);
-    match m {
-        Mean::Done(c) => ProbedMean {
+    match picture::mean_rgb(w, h, target) {
+        Ok(c) => ProbedMean {
             number: 0,
             red: c.red,
             green: c.green,
             blue: c.blue,
         },
-        Mean::Refused(k) => ProbedMean {
-            number: k,
+        Err(e) => ProbedMean {
+            number: e.number(),
             red: 0.0,
             green: 0.0,
             blue: 0.0,
@@ -78,14 +72,10 @@ pub fn probe_mean_rgb(w: usize, h: usize, target: &[f32]) -> ProbedMean
 pub fn probe_sse_total(w: usize, h: usize, target: &[f32], canvas: &[f32]) -> ProbedTotal
     ensures { ProbeSseTotalSays w h target.now canvas.now result }
 {
-    let t = picture::sse_total(w, h, target, canvas);
-    match t {
-        Total::Done(x) => ProbedTotal {
-            number: 0,
-            total: x,
-        },
-        Total::Refused(k) => ProbedTotal {
-            number: k,
+    match picture::sse_total(w, h, target, canvas) {
+        Ok(total) => ProbedTotal { number: 0, total },
+        Err(e) => ProbedTotal {
+            number: e.number(),
             total: 0.0,
         },
     }
@@ -93,38 +83,34 @@ pub fn probe_sse_total(w: usize, h: usize, target: &[f32], canvas: &[f32]) -> Pr
 
 // ---- painting
 
-fn blend_refusal(kind: Kind, w: usize, h: usize, n: usize) -> u8
-    ensures { result ≡ blend_refusal kind w h n }
+fn blend_tested(kind: Kind, w: usize, h: usize, n: usize) -> Result<(), Refusal>
+    ensures { number_of result ≡ blend_refusal kind w h n }
 {
     if refusal::bad_size(w, h) {
-        return refusal::SIZE;
+        return Err(Refusal::Size);
     }
     if refusal::bad_picture(w, h, n) {
-        return refusal::LENGTH;
+        return Err(Refusal::Length);
     }
     if cover::bad_places(kind) {
-        return refusal::PLACE;
+        return Err(Refusal::Place);
     }
-    0
+    Ok(())
 }
 
 fn blended(
     kind: Kind,
     opacity: f32,
-    red: f32,
-    green: f32,
-    blue: f32,
+    colour: Colour,
     w: usize,
     h: usize,
     canvas: &mut [f32],
-) -> u8
-    ensures { Blended kind opacity red green blue w h canvas.old result canvas.new }
+) -> Result<(), Refusal>
+    ensures { Blended kind opacity colour.red colour.green colour.blue w h canvas.old (number_of result) canvas.new }
 {
-    let number = blend_refusal(kind, w, h, canvas.len());
-    if number == 0 {
-        picture::blend(kind, opacity, red, green, blue, w, h, canvas);
-    }
-    number
+    blend_tested(kind, w, h, canvas.len())?;
+    picture::blend(kind, opacity, colour, w, h, canvas);
+    Ok(())
 }
 
 // A shape is a slice of coordinates: cx, cy, r, or the corners of a triangle or a quad; another length is refusal 2.
@@ -133,39 +119,37 @@ pub fn probe_blend(
     h: usize,
     shape: &[i32],
     opacity: f32,
-    red: f32,
-    green: f32,
-    blue: f32,
+    colour: Colour,
     canvas: &mut [f32],
 ) -> u8
-    ensures { ProbeBlendSays w h shape.now opacity red green blue canvas.old result canvas.new }
+    ensures { ProbeBlendSays w h shape.now opacity colour.red colour.green colour.blue canvas.old result canvas.new }
 {
     let o = crossing::outline(shape);
     match o {
-        Some(kind) => blended(kind, opacity, red, green, blue, w, h, canvas),
-        None => refusal::LENGTH,
+        Some(kind) => refusal::number_of(blended(kind, opacity, colour, w, h, canvas)),
+        None => Refusal::Length.number(),
     }
 }
 
 // ---- the row reach
 
-fn reach_refusal(kind: Kind, w: usize, h: usize) -> u8
-    ensures { result ≡ refusal_of kind w h }
+fn reach_tested(kind: Kind, w: usize, h: usize) -> Result<(), Refusal>
+    ensures { number_of result ≡ refusal_of kind w h }
 {
     if refusal::bad_size(w, h) {
-        return refusal::SIZE;
+        return Err(Refusal::Size);
     }
     if cover::bad_places(kind) {
-        return refusal::PLACE;
+        return Err(Refusal::Place);
     }
-    0
+    Ok(())
 }
 
-fn unreached(number: u8) -> ProbedReach
-    ensures { result ≡ unreached number }
+fn unreached(e: Refusal) -> ProbedReach
+    ensures { result ≡ unreached (number e) }
 {
     ProbedReach {
-        number: number,
+        number: e.number(),
         first: 0,
         last: 0,
     }
@@ -174,15 +158,16 @@ fn unreached(number: u8) -> ProbedReach
 fn reach(kind: Kind, w: usize, h: usize) -> ProbedReach
     ensures { result ≡ reach_of kind w h }
 {
-    let number = reach_refusal(kind, w, h);
-    if number != 0 {
-        return unreached(number);
-    }
-    let rows = cover::row_reach(kind, h);
-    ProbedReach {
-        number: 0,
-        first: rows.first,
-        last: rows.last,
+    match reach_tested(kind, w, h) {
+        Ok(()) => {
+            let rows = cover::row_reach(kind, h);
+            ProbedReach {
+                number: 0,
+                first: rows.first,
+                last: rows.last,
+            }
+        }
+        Err(e) => unreached(e),
     }
 }
 
@@ -192,6 +177,6 @@ pub fn probe_reach(w: usize, h: usize, shape: &[i32]) -> ProbedReach
     let o = crossing::outline(shape);
     match o {
         Some(kind) => reach(kind, w, h),
-        None => unreached(refusal::LENGTH),
+        None => unreached(Refusal::Length),
     }
 }

@@ -9,6 +9,7 @@ ghost use Rattle.probe_picture.specs.Probes.{
   ProbeReachSays,
 };
 
+use picture::Colour;
 use probe_picture::{ProbedMean, ProbedReach, ProbedTotal};
 
 #[unsafe(no_mangle)]
@@ -22,7 +23,7 @@ pub extern "C" fn probe_filled_canvas(
 ) -> u8
     ensures { ProbeFilledCanvasSays w h red green blue canvas.old result canvas.new }
 {
-    probe_picture::probe_filled_canvas(w, h, red, green, blue, canvas)
+    probe_picture::probe_filled_canvas(w, h, Colour { red, green, blue }, canvas)
 }
 
 #[unsafe(no_mangle)]
@@ -52,7 +53,7 @@ pub extern "C" fn probe_blend(
 ) -> u8
     ensures { ProbeBlendSays w h shape.now opacity red green blue canvas.old result canvas.new }
 {
-    probe_picture::probe_blend(w, h, shape, opacity, red, green, blue, canvas)
+    probe_picture::probe_blend(w, h, shape, opacity, Colour { red, green, blue }, canvas)
 }
 
 #[unsafe(no_mangle)]

@@ -14,6 +14,7 @@ ghost use Rattle.trials.specs.Courses.{Targeted, SummedTo, aids_of, Aided};
 ghost use Rattle.refine.specs.Passes.{untried, restarted, answered};
 
 use crate::Refined;
+use picture::Colour;
 use shapes::{Candidates, Shape, Shapes};
 use trials::Course;
 
@@ -34,7 +35,7 @@ fn draw(
     requires { Tabled w h n runs.now paints.now × (bad_colour red green blue ≡ false) × (length canvas.old ≡ h * w * 3) }
     ensures { T (all_within canvas.new) × ((l : List Shape) → Traced w h l runs.now paints.now → n ≤ length l → canvas.new ≡ painted_on (shape_painted w h) (filled w h red green blue) (slice 0 n l)) }
 {
-    picture::fill(w, h, red, green, blue, canvas);
+    picture::fill(w, h, Colour { red, green, blue }, canvas);
     traces::paint_all(w, h, 0, n, runs, paints, canvas);
 }
 
@@ -74,7 +75,7 @@ pub(crate) fn start(
         × Aided w h target.now (filled w h red green blue) (listed list) (aids_of second.new sums.new runs.new paints.new) }
 {
     traces::trace_list(w, h, list, runs, paints);
-    picture::fill(w, h, red, green, blue, second);
+    picture::fill(w, h, Colour { red, green, blue }, second);
     draw(w, h, red, green, blue, list.count, runs, paints, first);
     sum_rows(w, h, target, first, sums);
     let old = sums[h];
@@ -112,7 +113,7 @@ pub(crate) fn restart(
     requires { (c.passes < 16) × (length first.old ≡ h * w * 3) }
     ensures { (result ≡ restarted c) × (first.new ≡ filled w h red green blue) }
 {
-    picture::fill(w, h, red, green, blue, first);
+    picture::fill(w, h, Colour { red, green, blue }, first);
     let list = c.list;
     Course {
         list,

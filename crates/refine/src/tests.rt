@@ -5,6 +5,7 @@ ghost use Rattle.refusal.specs.Outcomes.{number_of};
 ghost use Rattle.shapes.specs.Ranges.{ranges_of};
 ghost use Rattle.refine.specs.Tests.{looked_at, size_tests, range_tests, refusal_of};
 
+use picture::Colour;
 use refusal::Refusal;
 use shapes::{Candidates, Ranges, Shapes};
 
@@ -46,7 +47,7 @@ fn ranges_tested(r: Ranges, red: f32, green: f32, blue: f32, target: &[f32]) -> 
     if !r.opacities {
         return Err(Refusal::Opacity);
     }
-    if !r.colours | picture::bad_colour(red, green, blue) {
+    if !r.colours | picture::bad_colour(Colour { red, green, blue }) {
         return Err(Refusal::Colour);
     }
     if !float::all_within(target) {

@@ -16,6 +16,7 @@ ghost use Rattle.session.specs.Held.{Sides, Sheet};
 
 use cover::Kind;
 use grade::Score;
+use picture::Colour;
 use refusal::Refusal;
 use score::Request;
 
@@ -51,8 +52,18 @@ pub(crate) fn make(
     requires lent { (length target.old ≡ h * w * 3) × (length canvas.old ≡ h * w * 3) × (length table.old ≡ h * (w + 1) * 15) }
     ensures { (target.new ≡ filled w h nought nought nought) × (canvas.new ≡ filled w h (channel red) (channel green) (channel blue)) × Sheet w h target.new canvas.new table.new × T (all_within canvas.new) }
 {
-    picture::fill(w, h, 0.0, 0.0, 0.0, target);
-    picture::fill(w, h, channel(red), channel(green), channel(blue), canvas);
+    let black = Colour {
+        red: 0.0,
+        green: 0.0,
+        blue: 0.0,
+    };
+    let colour = Colour {
+        red: channel(red),
+        green: channel(green),
+        blue: channel(blue),
+    };
+    picture::fill(w, h, black, target);
+    picture::fill(w, h, colour, canvas);
     let _ = table::build(target, canvas, w, h, table);
 }
 
@@ -107,7 +118,12 @@ pub(crate) fn paint(
     requires sheet { Sheet w h target.now canvas.old table.old }
     ensures { (canvas.new ≡ painted kind opacity s.red s.green s.blue w h canvas.old) × Sheet w h target.now canvas.new table.new × (result ≡ total_of target.now canvas.new) }
 {
-    picture::blend(kind, opacity, s.red, s.green, s.blue, w, h, canvas);
+    let colour = Colour {
+        red: s.red,
+        green: s.green,
+        blue: s.blue,
+    };
+    picture::blend(kind, opacity, colour, w, h, canvas);
     let reach = cover::row_reach(kind, h);
     let _ = table::update_canvas_rows(target, canvas, w, h, table, reach.first, reach.last);
     picture::total_any(target, canvas)

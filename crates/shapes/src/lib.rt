@@ -6,6 +6,7 @@ ghost use Rattle.shapes.specs.Lists.{ExchangeSays};
 ghost use Rattle.shapes.specs.Ranges.{ranges_of, both, LookAtSays, LookThroughSays};
 
 use cover::Kind;
+use picture::Colour;
 
 // A shape with its opacity and colour. It is read by its fields' names alone.
 #[derive(Clone, Copy)]
@@ -60,10 +61,15 @@ fn look(r: Ranges, s: Shape) -> Ranges
     ensures { result ≡ both r (ranges_of (s ∷ [])) }
 {
     let kind = s.kind;
+    let colour = Colour {
+        red: s.red,
+        green: s.green,
+        blue: s.blue,
+    };
     Ranges {
         places: r.places & !cover::bad_places(kind),
         opacities: r.opacities & float::within(s.opacity),
-        colours: r.colours & !picture::bad_colour(s.red, s.green, s.blue),
+        colours: r.colours & !picture::bad_colour(colour),
     }
 }
 

@@ -1,5 +1,5 @@
 -- Rules: document 01, "Fill, mean, total": the sums of a picture's channels, and the total squared difference of two pictures.
-use Rattle.std.specs.Prelude.{◌≡◌, ◌&&◌, cond, List, ℕ, ◌+◌, ◌*◌, pos, length, get_or, Float}
+use Rattle.std.specs.Prelude.{◌≡◌, ◌&&◌, cond, List, ℕ, ◌+◌, ◌*◌, pos, length, get_or, Float, Option, None, Some}
 use Rattle.std.specs.Float.{nan, binary64}
 use Rattle.std.specs.Float.Ieee.{of_int}
 use Rattle.laws.specs.Before.{before}
@@ -8,10 +8,6 @@ use Rattle.laws.specs.F64.{◌⊕◌, ◌⊗◌, ◌⊘◌}
 use Rattle.float.specs.Narrowed.{narrowed}
 use Rattle.float.specs.Within.{nought, all_within}
 use Rattle.tally.specs.declared.means.Sums.{Sums}
-use Rattle.tally.specs.declared.means.Summed.{Summed}
-use Rattle.tally.specs.declared.means.Summed.TheVariants as summed
-use Rattle.tally.specs.declared.totals.Totalled.{Totalled}
-use Rattle.tally.specs.declared.totals.Totalled.TheVariants as totalled
 
 -- ---- of each channel the sum over the pixels, in their order, in f64
 unfoldable pub channel_sum : List Float → ℕ → ℕ → Float
@@ -26,8 +22,8 @@ sums_to target i = record {
 }
 
 -- of a picture of n pixels within 0..1, and of no other
-abbrev pub SumsWithinSays : List Float → ℕ → Summed → Type 0
-SumsWithinSays target n r = r ≡ cond (all_within target) (summed.Of (sums_to target n)) summed.Beyond
+abbrev pub SumsWithinSays : List Float → ℕ → Option Sums → Type 0
+SumsWithinSays target n r = r ≡ cond (all_within target) (Some (sums_to target n)) None
 
 -- a sum divided by the pixels' count, narrowed
 abbrev pub ShareSays : Float → ℕ → Float → Type 0
@@ -46,9 +42,9 @@ unfoldable pub total_to : List Float → List Float → ℕ → Float
 total_to target canvas n = before nought ◌⊕◌ (λ i. squared_difference (get_or target i nan) (get_or canvas i nan)) n
 
 -- of two pictures within 0..1, and of no others
-abbrev pub TotalWithinSays : List Float → List Float → Totalled → Type 0
+abbrev pub TotalWithinSays : List Float → List Float → Option Float → Type 0
 TotalWithinSays target canvas r =
-    r ≡ cond (all_within target && all_within canvas) (totalled.Of (total_of target canvas)) totalled.Beyond
+    r ≡ cond (all_within target && all_within canvas) (Some (total_of target canvas)) None
 
 -- for our own crates: of any numbers
 abbrev pub SquaredAnySays : Float → Float → Float → Type 0

@@ -1,5 +1,5 @@
 -- Laws: the steps of the sums and the total; the difference of two values within 0..1 is a number; the first numbers of a picture; each promise has one answer.
-use Rattle.std.specs.Prelude.{◌≡◌, refl, Bool, true, false, not, ◌&&◌, cond, List, ℕ, ◌+◌, ◌*◌, ◌≤◌, ◌<◌, T, length, get_or, take, Float}
+use Rattle.std.specs.Prelude.{◌≡◌, refl, Bool, true, false, not, ◌&&◌, cond, List, ℕ, ◌+◌, ◌*◌, ◌≤◌, ◌<◌, T, length, get_or, take, Float, Option, None, Some}
 use Rattle.std.proofs.Common.{sym, ap, ◌∙◌, subst, ⊎_elim, lt_of_lt_of_le, le_of_eq, arith, take_all, take-take, get_or-take, length-take-le}
 use Rattle.std.specs.Float.{nan, inf, fin, Format}
 use Rattle.std.specs.Float.Ieee.{add, sub, neg}
@@ -13,20 +13,16 @@ use Rattle.float.specs.Within.{nought, number, within, all_within}
 use Rattle.float.specs.WithinLaws.{Says, says, within-number}
 use Rattle.float.specs.MarksLaws.{sum_number}
 use Rattle.tally.specs.declared.means.Sums.{Sums}
-use Rattle.tally.specs.declared.means.Summed.{Summed}
-use Rattle.tally.specs.declared.means.Summed.TheVariants as summed
-use Rattle.tally.specs.declared.totals.Totalled.{Totalled}
-use Rattle.tally.specs.declared.totals.Totalled.TheVariants as totalled
 use Rattle.tally.specs.Tally.{channel_sum, sums_to, SumsWithinSays, ShareSays, squared_difference, total_of, total_to, TotalWithinSays, SquaredAnySays}
 
 -- ---- each promise has one answer
-pub SumsWithinSays-unique : (target : List Float) (n : ℕ) (r s : Summed) → SumsWithinSays target n r → SumsWithinSays target n s → r ≡ s
+pub SumsWithinSays-unique : (target : List Float) (n : ℕ) (r s : Option Sums) → SumsWithinSays target n r → SumsWithinSays target n s → r ≡ s
 SumsWithinSays-unique target n r s p q = p ∙ sym q
 
 pub ShareSays-unique : (sum : Float) (n : ℕ) (r s : Float) → ShareSays sum n r → ShareSays sum n s → r ≡ s
 ShareSays-unique sum n r s p q = p ∙ sym q
 
-pub TotalWithinSays-unique : (target canvas : List Float) (r s : Totalled) → TotalWithinSays target canvas r → TotalWithinSays target canvas s → r ≡ s
+pub TotalWithinSays-unique : (target canvas : List Float) (r s : Option Float) → TotalWithinSays target canvas r → TotalWithinSays target canvas s → r ≡ s
 TotalWithinSays-unique target canvas r s p q = p ∙ sym q
 
 pub SquaredAnySays-unique : (t c r s : Float) → SquaredAnySays t c r → SquaredAnySays t c s → r ≡ s
@@ -70,11 +66,11 @@ pub sums_are : (target : List Float) (n : ℕ) → sums_to target n ≡ sums_of_
 unfolding sums_to
 sums_are target n = refl
 
-pub sums_beyond : (target : List Float) (n : ℕ) → all_within target ≡ false → SumsWithinSays target n summed.Beyond
-sums_beyond target n e = sym (ap (λ (b : Bool). cond b (summed.Of (sums_to target n)) summed.Beyond) e)
+pub sums_beyond : (target : List Float) (n : ℕ) → all_within target ≡ false → SumsWithinSays target n None
+sums_beyond target n e = sym (ap (λ (b : Bool). cond b (Some (sums_to target n)) None) e)
 
-pub sums-done : (target : List Float) (n : ℕ) (s : Sums) → s ≡ sums_to target n → all_within target ≡ true → SumsWithinSays target n (summed.Of s)
-sums-done target n s p e = ap summed.Of p ∙ sym (ap (λ (b : Bool). cond b (summed.Of (sums_to target n)) summed.Beyond) e)
+pub sums-done : (target : List Float) (n : ℕ) (s : Sums) → s ≡ sums_to target n → all_within target ≡ true → SumsWithinSays target n (Some s)
+sums-done target n s p e = ap Some p ∙ sym (ap (λ (b : Bool). cond b (Some (sums_to target n)) None) e)
 
 -- ---- total: number i is added
 pub total-none : (target canvas : List Float) → nought ≡ total_to target canvas 0
@@ -92,11 +88,11 @@ pub total-all : (target canvas : List Float) (n : ℕ) (s : Float) → n ≡ len
 unfolding total_to total_of
 total-all target canvas n s e p = p ∙ ap (total_to target canvas) e
 
-pub total_beyond : (target canvas : List Float) → all_within target && all_within canvas ≡ false → TotalWithinSays target canvas totalled.Beyond
-total_beyond target canvas e = sym (ap (λ (b : Bool). cond b (totalled.Of (total_of target canvas)) totalled.Beyond) e)
+pub total_beyond : (target canvas : List Float) → all_within target && all_within canvas ≡ false → TotalWithinSays target canvas None
+total_beyond target canvas e = sym (ap (λ (b : Bool). cond b (Some (total_of target canvas)) None) e)
 
-pub total-done : (target canvas : List Float) (s : Float) → s ≡ total_of target canvas → all_within target && all_within canvas ≡ true → TotalWithinSays target canvas (totalled.Of s)
-total-done target canvas s p e = ap totalled.Of p ∙ sym (ap (λ (b : Bool). cond b (totalled.Of (total_of target canvas)) totalled.Beyond) e)
+pub total-done : (target canvas : List Float) (s : Float) → s ≡ total_of target canvas → all_within target && all_within canvas ≡ true → TotalWithinSays target canvas (Some s)
+total-done target canvas s p e = ap Some p ∙ sym (ap (λ (b : Bool). cond b (Some (total_of target canvas)) None) e)
 
 -- ---- the difference of two values within 0..1 is a number
 pub difference_number : (f : Format) (x y : Float) → T (within x) → T (within y) → T (number (sub f x y))

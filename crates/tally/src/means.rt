@@ -11,17 +11,10 @@ pub struct Sums {
     pub blue: f64,
 }
 
-// The sums of a picture, or that a number of it is not within 0..1.
-#[derive(Clone, Copy)]
-pub enum Summed {
-    Of(Sums),
-    Beyond,
-}
-
-// The n pixels, 16 at a time: the next ones' tests are done while the additions, which may not be reordered, wait for each other. The
+// The sums of the n pixels, or none where a number is not within 0..1. 16 at a time: the next ones' tests are done while the additions, which may not be reordered, wait for each other. The
 // compiler knows how many a part has, so that it adds red and green as a pair; of any number it would gather a channel's numbers from
 // four pixels, which costs more than it saves.
-pub fn sums_within(target: &[f32], n: usize) -> Summed
+pub fn sums_within(target: &[f32], n: usize) -> Option<Sums>
     requires { length target.now ≡ n * 3 }
     ensures { SumsWithinSays target.now n result }
 {
@@ -33,16 +26,16 @@ pub fn sums_within(target: &[f32], n: usize) -> Summed
     let mut i = 0;
     while 16 <= n - i {
         if !crate::parts::part_within(target, i * 3, (i + 16) * 3) {
-            return Summed::Beyond;
+            return None;
         }
         sums = add_pixels(sums, target, i, i + 16);
         i += 16;
     }
     if !crate::parts::part_within(target, i * 3, n * 3) {
-        return Summed::Beyond;
+        return None;
     }
     sums = add_pixels(sums, target, i, n);
-    Summed::Of(sums)
+    Some(sums)
 }
 
 // The sums go on from those of the pixels before `from`.

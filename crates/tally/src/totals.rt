@@ -4,15 +4,8 @@ ghost use Rattle.laws.specs.F32.{◌⊟◌};
 ghost use Rattle.float.specs.Within.{within, all_within};
 ghost use Rattle.tally.specs.Tally.{SquaredAnySays, squared_difference, TotalWithinSays, total_to};
 
-// The total of two pictures, or that a number of one is not within 0..1.
-#[derive(Clone, Copy)]
-pub enum Totalled {
-    Of(f64),
-    Beyond,
-}
-
-// 16 numbers at a time: the next ones' tests are done while the additions, which may not be reordered, wait for each other.
-pub fn total_within(target: &[f32], canvas: &[f32]) -> Totalled
+// The total of two pictures, or none where a number of one is not within 0..1. 16 numbers at a time: the next ones' tests are done while the additions, which may not be reordered, wait for each other.
+pub fn total_within(target: &[f32], canvas: &[f32]) -> Option<f64>
     requires { length target.now ≡ length canvas.now }
     ensures { TotalWithinSays target.now canvas.now result }
 {
@@ -22,12 +15,12 @@ pub fn total_within(target: &[f32], canvas: &[f32]) -> Totalled
     while i < n {
         let e = part_end(i, n);
         if !both_within(target, canvas, i, e) {
-            return Totalled::Beyond;
+            return None;
         }
         sum = add_squares(target, canvas, i, e, sum);
         i = e;
     }
-    Totalled::Of(sum)
+    Some(sum)
 }
 
 fn part_end(i: usize, n: usize) -> usize

@@ -13,5 +13,5 @@ returns-else-first-last c =
     let a = c.args in
     let p : SFits w32 a.reach.first = search rules in
     let q : SFits w32 a.reach.last = search rules in
-    painted-empty a.kind a.opacity a.red a.green a.blue a.w a.h a.canvas.now a.reach c.requires.picture c.requires.rows
+    painted-empty a.kind a.opacity a.colour.red a.colour.green a.colour.blue a.w a.h a.canvas.now a.reach c.requires.picture c.requires.rows
     (le_false _ _ (rw (to_z-of_z p, to_z-of_z q) at c.if-first-last.false))

@@ -22,8 +22,8 @@ returns-then-last-first c =
     let p : SFits w32 r.result.first = search rules in
     let q : SFits w32 r.result.last = search rules in
     let t = rw (to_z-of_z p, to_z-of_z q) at c.if-last-first.true in
-    paint_done a.kind a.opacity a.red a.green a.blue a.w a.h a.target.now a.canvas.now a.table.now _ _ e
-    (nothing_done a.kind a.opacity a.red a.green a.blue a.w a.h a.target.now a.canvas.now a.table.now r.result
+    paint_done a.kind a.opacity a.colour.red a.colour.green a.colour.blue a.w a.h a.target.now a.canvas.now a.table.now _ _ e
+    (nothing_done a.kind a.opacity a.colour.red a.colour.green a.colour.blue a.w a.h a.target.now a.canvas.now a.table.now r.result
     (passed _ _ _ _ _ _ _ _ _ _ e).lengths.canvas-length r.ensures
     (lt_true _ _ (and_left (lt_z r.result.last r.result.first) (le_z (pos 0) r.result.last) t))
     (le_true _ _ (and_right (lt_z r.result.last r.result.first) (le_z (pos 0) r.result.last) t)))
@@ -36,7 +36,7 @@ paint_both-requires c =
 pub returns-then-usual : goal.returns-then-usual
 returns-then-usual c =
     let a = c.args in
-    paint_done a.kind a.opacity a.red a.green a.blue a.w a.h a.target.now a.canvas.now a.table.now _ _
+    paint_done a.kind a.opacity a.colour.red a.colour.green a.colour.blue a.w a.h a.target.now a.canvas.now a.table.now _ _
     (c.usual.ensures c.if-usual.true) (rw c.anew-same.ensures at c.paint_both.ensures)
 
 pub returns : goal.returns

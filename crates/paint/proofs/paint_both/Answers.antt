@@ -24,7 +24,7 @@ returns c =
     let r = c.row_reach-reach in
     let p : SFits w32 r.result.first = search rules in
     let q : SFits w32 r.result.last = search rules in
-    both_done a.kind a.opacity a.red a.green a.blue a.w a.h a.target.now a.canvas.now a.table.now _ _ _ _ _ c.requires.sizes
+    both_done a.kind a.opacity a.colour.red a.colour.green a.colour.blue a.w a.h a.target.now a.canvas.now a.table.now _ _ _ _ _ c.requires.sizes
     c.blend_reached.ensures
     (to_z-of_z p ∙ ap (λ (t : Reach). t.first) r.ensures)
     (to_z-of_z q ∙ ap (λ (t : Reach). t.last) r.ensures)

@@ -12,7 +12,7 @@ pub returns-in_err-tested : goal.returns-in_err-tested
 returns-in_err-tested c =
     let a = c.args in
     let k : number_of c.from_residual.result ≡ number c.in_err-tested.field-0.0 = search rules in
-    paint-refused a.kind a.opacity a.red a.green a.blue a.w a.h a.target.now a.canvas.now a.table.now _
+    paint-refused a.kind a.opacity a.colour.red a.colour.green a.colour.blue a.w a.h a.target.now a.canvas.now a.table.now _
     (k ∙ c.in_err-tested.ensures) (λ z. number-positive c.in_err-tested.field-0.0 (sym k ∙ z))
 
 pub paint_both-requires : goal.paint_both-requires
@@ -23,6 +23,6 @@ paint_both-requires c =
 pub returns : goal.returns
 returns c =
     let a = c.args in
-    paint_done a.kind a.opacity a.red a.green a.blue a.w a.h a.target.now a.canvas.now a.table.now _ _
+    paint_done a.kind a.opacity a.colour.red a.colour.green a.colour.blue a.w a.h a.target.now a.canvas.now a.table.now _ _
     (sym c.in_ok-tested.ensures)
     c.paint_both.ensures

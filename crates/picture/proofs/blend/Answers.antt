@@ -8,7 +8,7 @@ use Rattle.picture.proofs.blend.Goals as goal
 pub returns-then-rows : goal.returns-then-rows
 returns-then-rows c =
     let a = c.args in
-    painted-none a.kind a.opacity a.red a.green a.blue a.w a.h a.canvas.now c.requires.sizes c.reach_rows-rows.result c.requires.picture c.reach_rows-rows.ensures c.if-rows.true
+    painted-none a.kind a.opacity a.colour.red a.colour.green a.colour.blue a.w a.h a.canvas.now c.requires.sizes c.reach_rows-rows.result c.requires.picture c.reach_rows-rows.ensures c.if-rows.true
 
 pub runs-requires : goal.runs-requires
 unfolding blank
@@ -28,7 +28,7 @@ blend_rows-requires c =
 pub returns : goal.returns
 returns c =
     let a = c.args in
-    painted-is a.kind a.opacity a.red a.green a.blue a.w a.h a.canvas.now c.requires.sizes _ _ _ _
+    painted-is a.kind a.opacity a.colour.red a.colour.green a.colour.blue a.w a.h a.canvas.now c.requires.sizes _ _ _ _
     c.brush_of-brush.ensures
     c.runs.ensures
     c.reach_rows-rows.ensures

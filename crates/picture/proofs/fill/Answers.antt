@@ -12,7 +12,7 @@ returns-then-n-le16 c =
     let p = c.put_each in
     let n = c.min_usize-begun.result in
     let all : a.h * a.w ≤ n = omega arith in
-    coloured_all a.w a.h a.red a.green a.blue n _ (p.auto.canvas ∙ c.requires) all (p.ensures (coloured_none _ _))
+    coloured_all a.w a.h a.colour.red a.colour.green a.colour.blue n _ (p.auto.canvas ∙ c.requires) all (p.ensures (coloured_none _ _))
 
 pub returns : goal.returns
 returns c =
@@ -23,4 +23,4 @@ returns c =
     let n = c.min_usize-begun.result in
     let first : 16 ≤ n = omega arith in
     let size = r.auto.canvas ∙ q.auto.canvas ∙ p.auto.canvas ∙ c.requires in
-    coloured_all a.w a.h a.red a.green a.blue (a.h * a.w) _ size (omega arith) (r.ensures (q.ensures _ (coloured_first _ 16 n _ first (p.ensures (coloured_none _ _)))))
+    coloured_all a.w a.h a.colour.red a.colour.green a.colour.blue (a.h * a.w) _ size (omega arith) (r.ensures (q.ensures _ (coloured_first _ 16 n _ first (p.ensures (coloured_none _ _)))))

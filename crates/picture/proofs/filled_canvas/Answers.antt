@@ -1,22 +1,36 @@
 use mathlib.Core.Path.{refl, sym, ◌∙◌}
-use borrow.Author.Tests.{eq-eqb, ne_eqb}
-use Rattle.picture.specs.PixelLaws.{fill-passed}
+use native.Mathlib.Omega.{arith}
+use borrow.Author.Tests.{ne_eqb}
+use Rattle.std.proofs.Common.{rules}
+use Rattle.std.specs.Prelude.{◌≡◌}
+use Rattle.refusal.specs.Outcomes.{number, number_of}
+use Rattle.refusal.specs.OutcomeLaws.{number-positive}
+use Rattle.refusal.specs.ThreeTests.{refused-first, two-passed, at-third, at_none}
+use Rattle.picture.specs.Pixels.{fill_refusal}
+use Rattle.picture.specs.PixelLaws.{sizes_passed}
 use Rattle.picture.proofs.filled_canvas.Goals as goal
 
--- The number is that of the tests; where it is 0 the picture is filled, and else as it was.
+-- Size and length, then the colour; where all pass the picture is filled, and else as it was.
+
+pub returns-in_err-tested : goal.returns-in_err-tested
+unfolding fill_refusal
+returns-in_err-tested c =
+    let k : number_of c.from_residual.result ≡ number c.in_err-tested.field-0.0 = search rules in
+    let e = k ∙ c.in_err-tested.ensures in
+    let n : number_of c.from_residual.result ≡ 0 → ⊥ = λ z. number-positive c.in_err-tested.field-0.0 (sym k ∙ z) in
+    record { number = e ∙ refused-first _ 6 (omega arith) _ _ (λ z. n (e ∙ z)); left = rw (ne_eqb _ 0 n) refl }
+
+pub returns-then-bad_colour : goal.returns-then-bad_colour
+unfolding fill_refusal
+returns-then-bad_colour c =
+    let p = two-passed _ _ (sym c.in_ok-tested.ensures) in
+    record { number = at-third _ _ _ 6 (omega arith) p.0 p.1 (sym c.bad_colour.ensures ∙ c.if-bad_colour.true); left = refl }
 
 pub fill-requires : goal.fill-requires
-fill-requires c =
-    (fill-passed _ _ _ _ _ _ (sym c.fill_refusal-number.ensures ∙ c.if-number-eq0.true)).1
+fill-requires c = (sizes_passed _ _ _ (sym c.in_ok-tested.ensures)).1
 
-pub returns-then-number-eq0 : goal.returns-then-number-eq0
-returns-then-number-eq0 c =
-    let r = c.fill_refusal-number in
-    let e = eq-eqb r.result 0 c.if-number-eq0.true in
-    record { number = r.ensures; left = rw e c.fill.ensures }
-
-pub returns-else-number-eq0 : goal.returns-else-number-eq0
-returns-else-number-eq0 c =
-    let r = c.fill_refusal-number in
-    let e = ne_eqb r.result 0 c.if-number-eq0.false in
-    record { number = r.ensures; left = rw e refl }
+pub returns : goal.returns
+unfolding fill_refusal
+returns c =
+    let p = two-passed _ _ (sym c.in_ok-tested.ensures) in
+    record { number = at_none _ _ _ 6 (omega arith) p.0 p.1 (sym c.bad_colour.ensures ∙ c.if-bad_colour.false); left = c.fill.ensures }

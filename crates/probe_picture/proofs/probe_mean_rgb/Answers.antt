@@ -5,11 +5,11 @@ use Rattle.probe_picture.proofs.probe_mean_rgb.Goals as goal
 
 -- What `mean_rgb` promises, as C has it.
 
-pub returns-in-Done : goal.returns-in-Done
-returns-in-Done c =
-    ap probed_mean (rw c.in-Done.is at c.mean_rgb-m.ensures)
+pub returns-in-Ok : goal.returns-in-Ok
+returns-in-Ok c =
+    ap probed_mean (rw c.in-Ok.is at c.mean_rgb.ensures)
 
-pub returns-in-Refused : goal.returns-in-Refused
+pub returns-in-Err : goal.returns-in-Err
 unfolding of_bits
-returns-in-Refused c =
-    ap probed_mean (rw c.in-Refused.is at c.mean_rgb-m.ensures)
+returns-in-Err c =
+    rw c.number.ensures (ap probed_mean (rw c.in-Err.is at c.mean_rgb.ensures))

@@ -5,11 +5,11 @@ use Rattle.probe_picture.proofs.probe_sse_total.Goals as goal
 
 -- What `sse_total` promises, as C has it.
 
-pub returns-in-Done : goal.returns-in-Done
-returns-in-Done c =
-    ap probed_total (rw c.in-Done.is at c.sse_total-t.ensures)
+pub returns-in-Ok : goal.returns-in-Ok
+returns-in-Ok c =
+    ap probed_total (rw c.in-Ok.is at c.sse_total.ensures)
 
-pub returns-in-Refused : goal.returns-in-Refused
+pub returns-in-Err : goal.returns-in-Err
 unfolding of_bits
-returns-in-Refused c =
-    ap probed_total (rw c.in-Refused.is at c.sse_total-t.ensures)
+returns-in-Err c =
+    rw c.number.ensures (ap probed_total (rw c.in-Err.is at c.sse_total.ensures))

@@ -3,7 +3,7 @@ use mathlib.Core.List.{[], ◌∷◌}
 use Rattle.refusal.specs.Refusals.{lowest, size_if, place_if, bad_size}
 use Rattle.refusal.specs.RefusalLaws.{lowest-take, lowest_skip}
 use Rattle.cover.specs.Cover.{bad_places, refusal_of}
-use Rattle.probe_picture.proofs.reach_refusal.Goals as goal
+use Rattle.probe_picture.proofs.reach_tested.Goals as goal
 
 -- The two tests, in the order of their numbers.
 

@@ -3,7 +3,7 @@ use mathlib.Core.List.{[], ◌∷◌}
 use Rattle.refusal.specs.Refusals.{size_if, length_if}
 use Rattle.refusal.specs.RefusalLaws.{sized, lowest-take, lowest_skip}
 use Rattle.refusal.specs.ThreeTests.{two_none}
-use Rattle.picture.proofs.refused.Goals as goal
+use Rattle.picture.proofs.tested.Goals as goal
 
 -- The two tests, in the order of their numbers.
 

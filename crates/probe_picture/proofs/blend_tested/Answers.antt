@@ -3,7 +3,7 @@ use native.Mathlib.Omega.{arith}
 use Rattle.refusal.specs.RefusalLaws.{sized}
 use Rattle.refusal.specs.ThreeTests.{at_size, at_length, at-third, at_none}
 use Rattle.probe_picture.specs.Probes.{blend_refusal}
-use Rattle.probe_picture.proofs.blend_refusal.Goals as goal
+use Rattle.probe_picture.proofs.blend_tested.Goals as goal
 
 -- The three tests, in the order of their numbers.
 

@@ -1,7 +1,7 @@
 use Rattle.std.proofs.Common.{sym}
 use Rattle.refusal.specs.OutcomeLaws.{number-of-ok}
 use Rattle.demands.specs.KeepLaws.{answered_kept}
-use Rattle.run_paint.proofs.both.Goals as goal
+use Rattle.run_paint.proofs.pairs.both.Goals as goal
 
 -- `two_calls` asks for the table that the build left.
 
