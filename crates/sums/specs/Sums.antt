@@ -14,6 +14,9 @@ abbrev pub channel : List Float → ℕ → Float
 channel xs ch = get_or xs ch nan
 
 -- channel by channel
+abbrev pub each3_of : (Float → Float → Float) → List Float → List Float → List Float
+each3_of g a b = three (g (channel a 0) (channel b 0)) (g (channel a 1) (channel b 1)) (g (channel a 2) (channel b 2))
+
 abbrev pub sum3 : List Float → List Float → List Float
 sum3 a b = three (channel a 0 ⊕ channel b 0) (channel a 1 ⊕ channel b 1) (channel a 2 ⊕ channel b 2)
 
@@ -64,6 +67,17 @@ minus a b = record {
   s_c2 = difference3 a.s_c2 b.s_c2;
   s_tc = difference3 a.s_tc b.s_tc;
   count = a.count - b.count;
+}
+
+-- number by number, for the contracts of the code's steps
+abbrev pub each_of : (Float → Float → Float) → ShapeSums → ShapeSums → ℕ → ShapeSums
+each_of g a b n = record {
+  s_t = each3_of g a.s_t b.s_t;
+  s_c = each3_of g a.s_c b.s_c;
+  s_t2 = each3_of g a.s_t2 b.s_t2;
+  s_c2 = each3_of g a.s_c2 b.s_c2;
+  s_tc = each3_of g a.s_tc b.s_tc;
+  count = n;
 }
 
 -- what the functions promise

@@ -1,8 +1,8 @@
 // The running sums of a score and of a row of the table: target, canvas, their squares and their products over some pixels.
 #![tactic(auto)]
 
-ghost use Rattle.std.specs.Prelude.{◌≡◌, ◌+◌, ◌<◌, ◌≤◌, ◌^◌};
-ghost use Rattle.sums.specs.Sums.{sum3, difference3, product3, pixel_sums, NewSays, PlusSays, MinusSays, PushSays, PushWideSays};
+ghost use Rattle.std.specs.Prelude.{◌≡◌, ◌+◌, ◌<◌, ◌≤◌, ◌^◌, Float};
+ghost use Rattle.sums.specs.Sums.{each3_of, each_of, pixel_sums, NewSays, PlusSays, MinusSays, PushSays, PushWideSays};
 
 #[derive(Clone, Copy)]
 pub struct ShapeSums {
@@ -34,58 +34,14 @@ impl ShapeSums {
         requires { self.count + more.count < 2 ^ 32 }
         ensures { PlusSays self more result }
     {
-        let t = self.s_t;
-        let c = self.s_c;
-        let tt = self.s_t2;
-        let cc = self.s_c2;
-        let tc = self.s_tc;
-        let mt = more.s_t;
-        let mc = more.s_c;
-        let mtt = more.s_t2;
-        let mcc = more.s_c2;
-        let mtc = more.s_tc;
-        let s_t = add3(t, mt);
-        let s_c = add3(c, mc);
-        let s_t2 = add3(tt, mtt);
-        let s_c2 = add3(cc, mcc);
-        let s_tc = add3(tc, mtc);
-        ShapeSums {
-            s_t,
-            s_c,
-            s_t2,
-            s_c2,
-            s_tc,
-            count: self.count + more.count,
-        }
+        each(self, more, self.count + more.count, |x, y| x + y)
     }
 
     pub fn minus(self, less: ShapeSums) -> Self
         requires { less.count ≤ self.count }
         ensures { MinusSays self less result }
     {
-        let t = self.s_t;
-        let c = self.s_c;
-        let tt = self.s_t2;
-        let cc = self.s_c2;
-        let tc = self.s_tc;
-        let lt = less.s_t;
-        let lc = less.s_c;
-        let ltt = less.s_t2;
-        let lcc = less.s_c2;
-        let ltc = less.s_tc;
-        let s_t = sub3(t, lt);
-        let s_c = sub3(c, lc);
-        let s_t2 = sub3(tt, ltt);
-        let s_c2 = sub3(cc, lcc);
-        let s_tc = sub3(tc, ltc);
-        ShapeSums {
-            s_t,
-            s_c,
-            s_t2,
-            s_c2,
-            s_tc,
-            count: self.count - less.count,
-        }
+        each(self, less, self.count - less.count, |x, y| x - y)
     }
 
     // One pixel more: its target and its canvas, red, green and blue.
@@ -117,9 +73,9 @@ fn pixel(tr: f64, tg: f64, tb: f64, cr: f64, cg: f64, cb: f64) -> ShapeSums
 {
     let s_t = [tr, tg, tb];
     let s_c = [cr, cg, cb];
-    let s_t2 = mul3(s_t, s_t);
-    let s_c2 = mul3(s_c, s_c);
-    let s_tc = mul3(s_t, s_c);
+    let s_t2 = each3(s_t, s_t, |x, y| x * y);
+    let s_c2 = each3(s_c, s_c, |x, y| x * y);
+    let s_tc = each3(s_t, s_c, |x, y| x * y);
     ShapeSums {
         s_t,
         s_c,
@@ -130,20 +86,30 @@ fn pixel(tr: f64, tg: f64, tb: f64, cr: f64, cg: f64, cb: f64) -> ShapeSums
     }
 }
 
-fn add3(a: [f64; 3], b: [f64; 3]) -> [f64; 3]
-    ensures { result ≡ sum3 a b }
+// Two sums number by number, and a count.
+fn each<F: Fn(f64, f64) -> f64>(a: ShapeSums, b: ShapeSums, count: u32, f: F) -> ShapeSums
+    requires { F.IsAlwaysCallable f }
+    ensures { (g : Float → Float → Float) → ((x y z : _) → F.post f x y z → z ≡ g x y) → result ≡ each_of g a b count }
 {
-    [a[0] + b[0], a[1] + b[1], a[2] + b[2]]
+    let s_t = each3(a.s_t, b.s_t, &f);
+    let s_c = each3(a.s_c, b.s_c, &f);
+    let s_t2 = each3(a.s_t2, b.s_t2, &f);
+    let s_c2 = each3(a.s_c2, b.s_c2, &f);
+    let s_tc = each3(a.s_tc, b.s_tc, &f);
+    ShapeSums {
+        s_t,
+        s_c,
+        s_t2,
+        s_c2,
+        s_tc,
+        count,
+    }
 }
 
-fn sub3(a: [f64; 3], b: [f64; 3]) -> [f64; 3]
-    ensures { result ≡ difference3 a b }
+// Channel by channel.
+fn each3<F: Fn(f64, f64) -> f64>(a: [f64; 3], b: [f64; 3], f: F) -> [f64; 3]
+    requires { F.IsAlwaysCallable f }
+    ensures { (g : Float → Float → Float) → ((x y z : _) → F.post f x y z → z ≡ g x y) → result ≡ each3_of g a b }
 {
-    [a[0] - b[0], a[1] - b[1], a[2] - b[2]]
-}
-
-fn mul3(a: [f64; 3], b: [f64; 3]) -> [f64; 3]
-    ensures { result ≡ product3 a b }
-{
-    [a[0] * b[0], a[1] * b[1], a[2] * b[2]]
+    [f(a[0], b[0]), f(a[1], b[1]), f(a[2], b[2])]
 }
