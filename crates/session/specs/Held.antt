@@ -1,11 +1,12 @@
 -- Rules: how the running state is held: its numbers by value, two pictures and a table at the front of what is lent; and what a step promises.
-use Rattle.std.specs.Prelude.{◌≡◌, false, not, cond, List, [], ◌∷◌, ℕ, ◌+◌, ◌*◌, ◌≤◌, T, eqb, length, take, drop, Float}
+use Rattle.std.specs.Prelude.{◌≡◌, Result, Ok, Err, false, not, cond, List, [], ◌∷◌, ℕ, ◌+◌, ◌*◌, ◌≤◌, T, eqb, length, take, drop, Float}
 use Rattle.refusal.specs.Refusals.{lowest, place_if, opacity_if}
 use Rattle.float.specs.Within.{within, all_within}
 use Rattle.cover.specs.declared.Kind.{Kind}
 use Rattle.cover.specs.Cover.{bad_places}
 use Rattle.grade.specs.declared.Score.{Score}
-use Rattle.refusal.specs.Outcomes.{Outcome}
+use Rattle.refusal.specs.declared.Refusal.{Refusal}
+use Rattle.refusal.specs.Outcomes.{Outcome, number}
 use Rattle.grade.specs.Finalize.{finalized}
 use Rattle.grade.specs.Answered.{answered}
 use Rattle.gather.specs.Gathered.{span_sums}
@@ -13,6 +14,7 @@ use Rattle.lines.specs.Hex.{malformed}
 use Rattle.table.specs.Table.{Table}
 use Rattle.frame.specs.Frames as frames
 use Rattle.frame.specs.declared.Answer.{Answer}
+use Rattle.frame.specs.declared.Answer.TheVariants.{Refused}
 use Rattle.held.specs.declared.State.{State}
 use Rattle.frame.specs.declared.Request.{Request}
 use Rattle.held.specs.Asking.{no_picture, request_of}
@@ -57,6 +59,11 @@ session_of s target canvas =
 
 abbrev pub stepped : State → Answer → Stepped
 stepped s a = record { state = s; answer = a }
+
+-- a refused request leaves the state, and is answered by its number
+abbrev pub stepped_by : State → Result Stepped Refusal → Stepped
+stepped_by s (Ok r) = r
+stepped_by s (Err e) = stepped s (Refused (number e))
 
 -- ---- a shape on the picture held: its number, 0 for none, and its score from the table
 abbrev pub shape_refusal : State → Kind → Float → ℕ

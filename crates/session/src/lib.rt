@@ -7,7 +7,7 @@ ghost use Rattle.frame.specs.declared.Answer.TheVariants.{Refused};
 ghost use Rattle.session.specs.Session.{bad_sides, values_of};
 ghost use Rattle.refusal.specs.Outcomes.{number, outcome};
 ghost use Rattle.held.specs.Asking.{Carried};
-ghost use Rattle.session.specs.Held.{Sides, Holds, weighed_of, stepped, StepTakes, StepSays};
+ghost use Rattle.session.specs.Held.{Sides, Holds, weighed_of, stepped, stepped_by, StepTakes, StepSays};
 
 use cover::Kind;
 use frame::{Answer, Request, Values};
@@ -61,14 +61,14 @@ fn step_new(
     target: &mut [f32],
     canvas: &mut [f32],
     table: &mut [f64],
-) -> Stepped
+) -> Result<Stepped, Refusal>
     requires { Holds s target.old canvas.old table.old }
-    ensures { StepTakes s (new w h red green blue) target.old canvas.old table.old result target.new canvas.new table.new }
+    ensures { StepTakes s (new w h red green blue) target.old canvas.old table.old (stepped_by s result) target.new canvas.new table.new }
 {
     let width = w as usize;
     let height = h as usize;
     if bad_sides(width, height) {
-        return refused(s, Refusal::Size);
+        return Err(Refusal::Size);
     }
     let n = height * width * 3;
     let k = height * (width + 1) * 15;
@@ -87,10 +87,10 @@ fn step_new(
         h: height,
         painted: false,
     };
-    Stepped {
+    Ok(Stepped {
         state,
         answer: Answer::Made,
-    }
+    })
 }
 
 fn step_row(
@@ -101,25 +101,25 @@ fn step_row(
     target: &mut [f32],
     canvas: &[f32],
     table: &mut [f64],
-) -> Stepped
+) -> Result<Stepped, Refusal>
     requires held { Holds s target.old canvas.now table.old }
     requires carried { 2 + n ≤ length bytes.now }
-    ensures { StepTakes s (row y (take n (drop 2 bytes.now))) target.old canvas.now table.old result target.new canvas.now table.new }
+    ensures { StepTakes s (row y (take n (drop 2 bytes.now))) target.old canvas.now table.old (stepped_by s result) target.new canvas.now table.new }
 {
     let w = s.w;
     let h = s.h;
     if w == 0 {
-        return refused(s, Refusal::Malformed);
+        return Err(Refusal::Malformed);
     }
     if n != w * 3 {
-        return refused(s, Refusal::Malformed);
+        return Err(Refusal::Malformed);
     }
     let row = y as usize;
     if h <= row {
-        return refused(s, Refusal::Malformed);
+        return Err(Refusal::Malformed);
     }
     if s.painted {
-        return refused(s, Refusal::Malformed);
+        return Err(Refusal::Malformed);
     }
     let e = n + 2;
     let m = h * w * 3;
@@ -133,10 +133,10 @@ fn step_row(
         &canvas[0..m],
         &mut table[0..k],
     );
-    Stepped {
+    Ok(Stepped {
         state: s,
         answer: Answer::Set,
-    }
+    })
 }
 
 // The score of a shape on the picture held, or the refusal.
@@ -160,18 +160,15 @@ fn step_score(
     target: &[f32],
     canvas: &[f32],
     table: &[f64],
-) -> Stepped
+) -> Result<Stepped, Refusal>
     requires { Holds s target.now canvas.now table.now }
-    ensures { StepTakes s (score kind opacity) target.now canvas.now table.now result target.now canvas.now table.now }
+    ensures { StepTakes s (score kind opacity) target.now canvas.now table.now (stepped_by s result) target.now canvas.now table.now }
 {
-    let scored = weighed(s, kind, float::of_bits32(opacity), table);
-    match scored {
-        Ok(score) => Stepped {
-            state: s,
-            answer: Answer::Scored(values(score)),
-        },
-        Err(no) => refused(s, no),
-    }
+    let score = weighed(s, kind, float::of_bits32(opacity), table)?;
+    Ok(Stepped {
+        state: s,
+        answer: Answer::Scored(values(score)),
+    })
 }
 
 fn step_paint(
@@ -181,39 +178,57 @@ fn step_paint(
     target: &[f32],
     canvas: &mut [f32],
     table: &mut [f64],
-) -> Stepped
+) -> Result<Stepped, Refusal>
     requires { Holds s target.now canvas.old table.old }
-    ensures { StepTakes s (paint kind opacity) target.now canvas.old table.old result target.now canvas.new table.new }
+    ensures { StepTakes s (paint kind opacity) target.now canvas.old table.old (stepped_by s result) target.now canvas.new table.new }
 {
     let w = s.w;
     let h = s.h;
     let n = h * w * 3;
     let k = h * (w + 1) * 15;
     let a = float::of_bits32(opacity);
-    let scored = weighed(s, kind, a, table);
-    match scored {
-        Ok(score) => {
-            let total = sheet::paint(
-                kind,
-                a,
-                score,
-                w,
-                h,
-                &target[0..n],
-                &mut canvas[0..n],
-                &mut table[0..k],
-            );
-            let state = State {
-                w,
-                h,
-                painted: true,
-            };
-            Stepped {
-                state,
-                answer: Answer::Painted(values(score), float::bits64(total)),
-            }
-        }
-        Err(no) => refused(s, no),
+    let score = weighed(s, kind, a, table)?;
+    let total = sheet::paint(
+        kind,
+        a,
+        score,
+        w,
+        h,
+        &target[0..n],
+        &mut canvas[0..n],
+        &mut table[0..k],
+    );
+    let state = State {
+        w,
+        h,
+        painted: true,
+    };
+    Ok(Stepped {
+        state,
+        answer: Answer::Painted(values(score), float::bits64(total)),
+    })
+}
+
+// What a request makes of the running state, or the refusal.
+fn taken(
+    s: State,
+    request: Request,
+    bytes: &[u8],
+    target: &mut [f32],
+    canvas: &mut [f32],
+    table: &mut [f64],
+) -> Result<Stepped, Refusal>
+    requires held { Holds s target.old canvas.old table.old }
+    requires carried { Carried request bytes.now }
+    ensures { StepSays s request bytes.now target.old canvas.old table.old (stepped_by s result) target.new canvas.new table.new }
+{
+    match request {
+        Request::New(w, h, red, green, blue) => step_new(
+            s, w, h, red, green, blue, target, canvas, table,
+        ),
+        Request::Row(y, n) => step_row(s, y, n, bytes, target, canvas, table),
+        Request::Score(kind, opacity) => step_score(s, kind, opacity, target, canvas, table),
+        Request::Paint(kind, opacity) => step_paint(s, kind, opacity, target, canvas, table),
     }
 }
 
@@ -230,12 +245,8 @@ pub fn step(
     requires carried { Carried request bytes.now }
     ensures { StepSays s request bytes.now target.old canvas.old table.old result target.new canvas.new table.new }
 {
-    match request {
-        Request::New(w, h, red, green, blue) => step_new(
-            s, w, h, red, green, blue, target, canvas, table,
-        ),
-        Request::Row(y, n) => step_row(s, y, n, bytes, target, canvas, table),
-        Request::Score(kind, opacity) => step_score(s, kind, opacity, target, canvas, table),
-        Request::Paint(kind, opacity) => step_paint(s, kind, opacity, target, canvas, table),
+    match taken(s, request, bytes, target, canvas, table) {
+        Ok(stepped) => stepped,
+        Err(refusal) => refused(s, refusal),
     }
 }

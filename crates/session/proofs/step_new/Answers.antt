@@ -4,7 +4,7 @@ use native.Mathlib.Nat.{sub-zero}
 use native.Mathlib.Omega.{arith}
 use Rattle.frame.specs.Frames.{new}
 use Rattle.session.specs.Held.{Sides, session_of}
-use Rattle.session.specs.SessionLaws.{sides_of, picture_room, table-room, part_length, result_as, refuse, new-refused, new_done}
+use Rattle.session.specs.SessionLaws.{sides_of, picture_room, table-room, part_length, refuse, new-refused, new_done}
 use Rattle.session.proofs.step_new.Goals as goal
 use Rattle.session.proofs.step_new.Goals.{Else-bad_sides}
 
@@ -22,7 +22,6 @@ room c =
 pub returns-then-bad_sides : goal.returns-then-bad_sides
 returns-then-bad_sides c =
     let a = c.args in
-    result_as c.refused.ensures
     (refuse a.s (new a.w a.h a.red a.green a.blue) a.target.now a.canvas.now a.table.now c.requires 1
     (new-refused a.w a.h a.red a.green a.blue (session_of a.s a.target.now a.canvas.now) (sym c.bad_sides.ensures ∙ c.if-bad_sides.true)) (λ z. omega arith))
 

@@ -1,5 +1,8 @@
-use mathlib.Core.Path.{ap}
-use Rattle.refusal.specs.Outcomes.{outcome}
+use mathlib.Core.Path.{refl}
+use Rattle.std.proofs.Common.{◌≡◌, rules}
+use Rattle.refusal.specs.Outcomes.{number}
+use Rattle.frame.specs.declared.Answer.TheVariants.{Refused}
+use Rattle.session.specs.Held.{stepped, stepped_by}
 use native.Mathlib.Nat.{sub-zero}
 use native.Mathlib.Omega.{arith}
 use Rattle.session.specs.SessionLaws.{sheet_of, rooms, sides_held, result_as, paint-number, shape_refused, shape_drawn, shape-placed, paint_done}
@@ -22,27 +25,27 @@ overflow_mul-k c = let p = rooms c.requires in omega (arith, p.0, p.1, p.2)
 pub overflow_mul-k-2 : goal.overflow_mul-k-2
 overflow_mul-k-2 c = let p = rooms c.requires in omega (arith, p.0, p.1, p.2)
 
-pub weighed-scored-requires : goal.weighed-scored-requires
-weighed-scored-requires c = let h = c.requires in (sides_held h, h.table-room)
+pub weighed-requires : goal.weighed-requires
+weighed-requires c = let h = c.requires in (sides_held h, h.table-room)
 
 pub paint-total-requires : goal.paint-total-requires
 paint-total-requires c =
     let a = c.args in
     let o = c.of_bits32-a.ensures in
-    let d = (ap outcome c.in-Ok.is) in record {
-      places = shape-placed a.kind a.opacity c.requires o c.weighed-scored.ensures d;
-      sheet = simp sub-zero (sheet_of a.s a.target.now a.canvas.now a.table.now c.requires (shape_drawn a.kind a.opacity c.requires o c.weighed-scored.ensures d)).0;
+    let d = refl in record {
+      places = shape-placed a.kind a.opacity c.requires o c.in_ok-score.ensures d;
+      sheet = simp sub-zero (sheet_of a.s a.target.now a.canvas.now a.table.now c.requires (shape_drawn a.kind a.opacity c.requires o c.in_ok-score.ensures d)).0;
     }
 
-pub returns-in-Ok : goal.returns-in-Ok
-returns-in-Ok c =
+pub returns : goal.returns
+returns c =
     let m = c.paint-total.ensures in
     simp sub-zero
-    (paint_done c.args.kind c.args.opacity c.requires c.of_bits32-a.ensures c.weighed-scored.ensures (ap outcome c.in-Ok.is) c.values.ensures
+    (paint_done c.args.kind c.args.opacity c.requires c.of_bits32-a.ensures c.in_ok-score.ensures refl c.values.ensures
     (simp sub-zero at m.0) (simp sub-zero at m.1) (simp sub-zero at m.2) c.bits64.ensures)
 
-pub returns-in-Err : goal.returns-in-Err
-returns-in-Err c =
+pub returns-in_err-score : goal.returns-in_err-score
+returns-in_err-score c =
     let a = c.of_bits32-a.ensures in
-    result_as c.refused.ensures
-    (shape_refused c.args.kind c.args.opacity c.requires a (paint-number c.args.kind c.args.opacity c.requires a) c.weighed-scored.ensures (ap outcome c.in-Err.is))
+    let k : stepped_by c.args.s c.from_residual.result ≡ stepped c.args.s (Refused (number c.in_err-score.field-0.0)) = search rules in
+    result_as k (shape_refused c.args.kind c.args.opacity c.requires a (paint-number c.args.kind c.args.opacity c.requires a) c.in_err-score.ensures refl)

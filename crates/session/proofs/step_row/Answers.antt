@@ -4,7 +4,7 @@ use native.Mathlib.Nat.{sub-zero}
 use native.Mathlib.Omega.{arith}
 use lib.ListN.{length, take, drop}
 use Rattle.frame.specs.Frames.{row}
-use Rattle.session.specs.SessionLaws.{sheet_of, rooms, row-bytes, result_as, refuse_first, refuse_drawn, row_first, row-size, row_past, row_late, row_done}
+use Rattle.session.specs.SessionLaws.{sheet_of, rooms, row-bytes, refuse_first, refuse_drawn, row_first, row-size, row_past, row_late, row_done}
 use Rattle.session.proofs.step_row.Goals as goal
 
 -- `session::step_row` meets its contract: each refusal by its test, then the row and the table afresh.
@@ -12,7 +12,6 @@ use Rattle.session.proofs.step_row.Goals as goal
 pub returns-then-w-eq0 : goal.returns-then-w-eq0
 returns-then-w-eq0 c =
     let a = c.args in
-    result_as c.refused.ensures
     (refuse_first a.s (row a.y (take a.n (drop 2 a.bytes.now))) a.target.now a.canvas.now a.table.now c.requires.held c.if-w-eq0.true (row_first a.y (take a.n (drop 2 a.bytes.now))))
 
 pub overflow_mul-w : goal.overflow_mul-w
@@ -21,21 +20,18 @@ overflow_mul-w c = omega (arith, (rooms c.requires.held).2)
 pub returns-then-n-w : goal.returns-then-n-w
 returns-then-n-w c =
     let a = c.args in
-    result_as c.refused-then-n-w.ensures
     (refuse_drawn a.s (row a.y (take a.n (drop 2 a.bytes.now))) a.target.now a.canvas.now a.table.now c.requires.held 8 c.if-w-eq0.false
     (row-size a.y (take a.n (drop 2 a.bytes.now)) a.s.w a.s.h a.s.painted _ _ (λ e. c.if-n-w.true (sym (row-bytes a.n a.bytes.now c.requires.carried) ∙ e))) (λ z. omega arith))
 
 pub returns-then-h-row : goal.returns-then-h-row
 returns-then-h-row c =
     let a = c.args in
-    result_as c.refused-then-h-row.ensures
     (refuse_drawn a.s (row a.y (take a.n (drop 2 a.bytes.now))) a.target.now a.canvas.now a.table.now c.requires.held 8 c.if-w-eq0.false
     (row_past a.y (take a.n (drop 2 a.bytes.now)) a.s.w a.s.h a.s.painted _ _ (row-bytes a.n a.bytes.now c.requires.carried ∙ c.if-n-w.false) c.if-h-row.true) (λ z. omega arith))
 
 pub returns-then-s : goal.returns-then-s
 returns-then-s c =
     let a = c.args in
-    result_as c.refused-then-s.ensures
     (refuse_drawn a.s (row a.y (take a.n (drop 2 a.bytes.now))) a.target.now a.canvas.now a.table.now c.requires.held 8 c.if-w-eq0.false
     (row_late a.y (take a.n (drop 2 a.bytes.now)) a.s.w a.s.h a.s.painted _ _ (row-bytes a.n a.bytes.now c.requires.carried ∙ c.if-n-w.false) c.if-h-row.false c.if-s.true) (λ z. omega arith))
 

@@ -1,7 +1,7 @@
 use Rattle.session.specs.SessionLaws.{request_as}
-use Rattle.session.proofs.step.Goals as goal
+use Rattle.session.proofs.taken.Goals as goal
 
--- `session::step` meets its contract, by cases on the request.
+-- `session::taken` meets its contract, by cases on the request.
 
 pub step_row-requires : goal.step_row-requires
 step_row-requires c =
