@@ -70,13 +70,13 @@ fn refused(number: u8) -> SillbadgerAnswer
 }
 
 // No kind of shape has as many coordinates as were lent.
-fn no_shape(w: u32, h: u32) -> u8
-    ensures { result ≡ shapeless w h }
+fn no_shape(w: u32, h: u32) -> Refusal
+    ensures { number result ≡ shapeless w h }
 {
     if refusal::bad_size(w as usize, h as usize) {
-        return refusal::SIZE;
+        return Refusal::Size;
     }
-    refusal::LENGTH
+    Refusal::Length
 }
 
 // The pattern of an f32 from that of an f64. Nothing is refused.

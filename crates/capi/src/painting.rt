@@ -34,6 +34,6 @@ pub extern "C" fn sillbadger_paint(
             );
             refusal::number_of(answer)
         }
-        None => crate::no_shape(w, h),
+        None => crate::no_shape(w, h).number(),
     }
 }

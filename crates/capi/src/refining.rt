@@ -1,28 +1,30 @@
 // The export of refinement. A list crosses as three slices: of each shape its number of coordinates (3, 6, 8; among candidates 0
 // is nothing), eight places for them, and four floats: opacity, red, green, blue.
 ghost use Rattle.std.specs.Prelude.{◌≡◌, ◌≤◌, length};
+ghost use Rattle.refusal.specs.Outcomes.{number};
 ghost use Rattle.crossing.specs.Crossed.{Fits, shapes_of, offers_of};
 ghost use Rattle.capi.specs.Refining.{too_many, refine_refusal, Refines, SillbadgerRefineSays};
 
 use crate::SillbadgerAnswer;
+use refusal::Refusal;
 
 // A list is too long to be read: then only 1 and 2 are lower.
-fn long_refusal(w: u32, h: u32, target: usize, first: usize, second: usize) -> u8
-    ensures { result ≡ too_many w h target first second }
+fn long_refusal(w: u32, h: u32, target: usize, first: usize, second: usize) -> Refusal
+    ensures { number result ≡ too_many w h target first second }
 {
     if refusal::bad_size(w as usize, h as usize) {
-        return refusal::SIZE;
+        return Refusal::Size;
     }
     if refusal::bad_picture(w as usize, h as usize, target) {
-        return refusal::LENGTH;
+        return Refusal::Length;
     }
     if refusal::bad_picture(w as usize, h as usize, first) {
-        return refusal::LENGTH;
+        return Refusal::Length;
     }
     if refusal::bad_picture(w as usize, h as usize, second) {
-        return refusal::LENGTH;
+        return Refusal::Length;
     }
-    refusal::COUNT
+    Refusal::Count
 }
 
 // Lists that can be read.
@@ -101,16 +103,16 @@ pub extern "C" fn sillbadger_refine(
         result sizes.new places.new paints.new first.new second.new }
 {
     if crossing::lists::bad_list(sizes, places, paints, false) {
-        return crate::refused(crate::no_shape(w, h));
+        return crate::refused(crate::no_shape(w, h).number());
     }
     if crossing::lists::bad_list(offered_sizes, offered_places, offered_paints, true) {
-        return crate::refused(crate::no_shape(w, h));
+        return crate::refused(crate::no_shape(w, h).number());
     }
     if 64 < sizes.len() {
-        return crate::refused(long_refusal(w, h, target.len(), first.len(), second.len()));
+        return crate::refused(long_refusal(w, h, target.len(), first.len(), second.len()).number());
     }
     if 1024 < offered_sizes.len() {
-        return crate::refused(long_refusal(w, h, target.len(), first.len(), second.len()));
+        return crate::refused(long_refusal(w, h, target.len(), first.len(), second.len()).number());
     }
     refine_lists(
         w,

@@ -52,7 +52,7 @@ fn span_at(
         Some(kind) => {
             told(score::calls::span_score(kind, request, levels, w as usize, h as usize, table))
         }
-        None => crate::refused(crate::no_shape(w, h)),
+        None => crate::refused(crate::no_shape(w, h).number()),
     }
 }
 
@@ -109,7 +109,7 @@ fn point_of(
                 x0, y0, x1, y1, x2, y2, request, levels, w as usize, h as usize, target, canvas,
             ))
         }
-        Kind::Quad(_, _, _, _, _, _, _, _) => crate::refused(crate::no_shape(w, h)),
+        Kind::Quad(_, _, _, _, _, _, _, _) => crate::refused(crate::no_shape(w, h).number()),
     }
 }
 
@@ -127,7 +127,7 @@ fn point_at(
     let o = crossing::outline(shape);
     match o {
         Some(kind) => point_of(w, h, kind, request, levels, target, canvas),
-        None => crate::refused(crate::no_shape(w, h)),
+        None => crate::refused(crate::no_shape(w, h).number()),
     }
 }
 

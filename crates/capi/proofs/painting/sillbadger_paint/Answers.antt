@@ -1,4 +1,4 @@
-use mathlib.Core.Path.{refl, sym}
+use mathlib.Core.Path.{refl, sym, ◌∙◌}
 use Rattle.capi.proofs.painting.sillbadger_paint.Goals as goal
 
 -- What `paint` promises of the shape that the coordinates say; where they say none nothing is touched.
@@ -9,4 +9,4 @@ returns-in-Some c =
 
 pub returns-in-None : goal.returns-in-None
 returns-in-None c =
-    rw (sym (rw c.in-None.is at c.outline-o.ensures)) (c.no_shape.ensures, refl, refl)
+    rw (sym (rw c.in-None.is at c.outline-o.ensures)) (c.number.ensures ∙ c.no_shape.ensures, refl, refl)

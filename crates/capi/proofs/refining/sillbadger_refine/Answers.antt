@@ -13,30 +13,34 @@ pub returns-then-bad_list : goal.returns-then-bad_list
 returns-then-bad_list c =
     let a = c.args in
     let k = c.no_shape in
-    untouched _ k.result c.refused.result (k.ensures ∙ number-list a.w a.h a.red a.green a.blue a.sizes.now a.places.now a.paints.now a.offered_sizes.now a.offered_places.now a.offered_paints.now a.passes a.target.now (length a.first.now) (length a.second.now) (sym c.bad_list.ensures ∙ c.if-bad_list.true)) (λ z. shapeless-some a.w a.h (sym k.ensures ∙ z)) c.refused.ensures
+    let n = c.number in
+    untouched _ n.result c.refused.result (n.ensures ∙ k.ensures ∙ number-list a.w a.h a.red a.green a.blue a.sizes.now a.places.now a.paints.now a.offered_sizes.now a.offered_places.now a.offered_paints.now a.passes a.target.now (length a.first.now) (length a.second.now) (sym c.bad_list.ensures ∙ c.if-bad_list.true)) (λ z. shapeless-some a.w a.h (sym k.ensures ∙ sym n.ensures ∙ z)) c.refused.ensures
 
 pub returns-then-bad_list-2 : goal.returns-then-bad_list-2
 returns-then-bad_list-2 c =
     let a = c.args in
     let k = c.no_shape-then-bad_list-2 in
-    untouched _ k.result c.refused-then-bad_list-2.result (k.ensures ∙ number_offers a.w a.h a.red a.green a.blue a.sizes.now a.places.now a.paints.now a.offered_sizes.now a.offered_places.now a.offered_paints.now a.passes a.target.now (length a.first.now) (length a.second.now) (sym c.bad_list-2.ensures ∙ c.if-bad_list-2.true)) (λ z. shapeless-some a.w a.h (sym k.ensures ∙ z)) c.refused-then-bad_list-2.ensures
+    let n = c.number-then-bad_list-2 in
+    untouched _ n.result c.refused-then-bad_list-2.result (n.ensures ∙ k.ensures ∙ number_offers a.w a.h a.red a.green a.blue a.sizes.now a.places.now a.paints.now a.offered_sizes.now a.offered_places.now a.offered_paints.now a.passes a.target.now (length a.first.now) (length a.second.now) (sym c.bad_list-2.ensures ∙ c.if-bad_list-2.true)) (λ z. shapeless-some a.w a.h (sym k.ensures ∙ sym n.ensures ∙ z)) c.refused-then-bad_list-2.ensures
 
 pub returns-then-sizes-gt64 : goal.returns-then-sizes-gt64
 returns-then-sizes-gt64 c =
     let a = c.args in
     let k = c.long_refusal in
-    untouched _ k.result c.refused-then-sizes-gt64.result
-    (k.ensures ∙ many-shapes a.w a.h a.red a.green a.blue (shapes_of a.sizes.now a.places.now a.paints.now) (offers_of a.offered_sizes.now a.offered_places.now a.offered_paints.now) a.passes a.target.now (length a.first.now) (length a.second.now) (omega (arith, length-tab (shape_at a.sizes.now a.places.now a.paints.now) (length a.sizes.now), c.if-sizes-gt64.true)) ∙ (number_good a.w a.h a.red a.green a.blue a.sizes.now a.places.now a.paints.now a.offered_sizes.now a.offered_places.now a.offered_paints.now a.passes a.target.now (length a.first.now) (length a.second.now) (sym c.bad_list.ensures ∙ c.if-bad_list.false) (sym c.bad_list-2.ensures ∙ c.if-bad_list-2.false)))
-    (λ z. many-some a.w a.h (length a.target.now) (length a.first.now) (length a.second.now) (sym k.ensures ∙ z))
+    let n = c.number-then-sizes-gt64 in
+    untouched _ n.result c.refused-then-sizes-gt64.result
+    (n.ensures ∙ k.ensures ∙ many-shapes a.w a.h a.red a.green a.blue (shapes_of a.sizes.now a.places.now a.paints.now) (offers_of a.offered_sizes.now a.offered_places.now a.offered_paints.now) a.passes a.target.now (length a.first.now) (length a.second.now) (omega (arith, length-tab (shape_at a.sizes.now a.places.now a.paints.now) (length a.sizes.now), c.if-sizes-gt64.true)) ∙ (number_good a.w a.h a.red a.green a.blue a.sizes.now a.places.now a.paints.now a.offered_sizes.now a.offered_places.now a.offered_paints.now a.passes a.target.now (length a.first.now) (length a.second.now) (sym c.bad_list.ensures ∙ c.if-bad_list.false) (sym c.bad_list-2.ensures ∙ c.if-bad_list-2.false)))
+    (λ z. many-some a.w a.h (length a.target.now) (length a.first.now) (length a.second.now) (sym k.ensures ∙ sym n.ensures ∙ z))
     c.refused-then-sizes-gt64.ensures
 
 pub returns-then-offered_sizes-gt1024 : goal.returns-then-offered_sizes-gt1024
 returns-then-offered_sizes-gt1024 c =
     let a = c.args in
     let k = c.long_refusal-then-offered_sizes-gt1024 in
-    untouched _ k.result c.refused-then-offered_sizes-gt1024.result
-    (k.ensures ∙ many_offers a.w a.h a.red a.green a.blue (shapes_of a.sizes.now a.places.now a.paints.now) (offers_of a.offered_sizes.now a.offered_places.now a.offered_paints.now) a.passes a.target.now (length a.first.now) (length a.second.now) (omega (arith, length-tab (offer_at a.offered_sizes.now a.offered_places.now a.offered_paints.now) (length a.offered_sizes.now), c.if-offered_sizes-gt1024.true)) ∙ (number_good a.w a.h a.red a.green a.blue a.sizes.now a.places.now a.paints.now a.offered_sizes.now a.offered_places.now a.offered_paints.now a.passes a.target.now (length a.first.now) (length a.second.now) (sym c.bad_list.ensures ∙ c.if-bad_list.false) (sym c.bad_list-2.ensures ∙ c.if-bad_list-2.false)))
-    (λ z. many-some a.w a.h (length a.target.now) (length a.first.now) (length a.second.now) (sym k.ensures ∙ z))
+    let n = c.number-then-offered_sizes-gt1024 in
+    untouched _ n.result c.refused-then-offered_sizes-gt1024.result
+    (n.ensures ∙ k.ensures ∙ many_offers a.w a.h a.red a.green a.blue (shapes_of a.sizes.now a.places.now a.paints.now) (offers_of a.offered_sizes.now a.offered_places.now a.offered_paints.now) a.passes a.target.now (length a.first.now) (length a.second.now) (omega (arith, length-tab (offer_at a.offered_sizes.now a.offered_places.now a.offered_paints.now) (length a.offered_sizes.now), c.if-offered_sizes-gt1024.true)) ∙ (number_good a.w a.h a.red a.green a.blue a.sizes.now a.places.now a.paints.now a.offered_sizes.now a.offered_places.now a.offered_paints.now a.passes a.target.now (length a.first.now) (length a.second.now) (sym c.bad_list.ensures ∙ c.if-bad_list.false) (sym c.bad_list-2.ensures ∙ c.if-bad_list-2.false)))
+    (λ z. many-some a.w a.h (length a.target.now) (length a.first.now) (length a.second.now) (sym k.ensures ∙ sym n.ensures ∙ z))
     c.refused-then-offered_sizes-gt1024.ensures
 
 pub refine_lists-requires : goal.refine_lists-requires

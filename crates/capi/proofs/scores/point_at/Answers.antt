@@ -17,5 +17,5 @@ pub returns-in-None : goal.returns-in-None
 returns-in-None c =
     let a = c.args in
     c.refused.ensures
-    ∙ ap refused_by c.no_shape.ensures
+    ∙ ap refused_by (c.number.ensures ∙ c.no_shape.ensures)
     ∙ ap (λ (k : Option Kind). point_answer a.w a.h (by_points k) a.request a.levels.now a.target.now a.canvas.now) (rw c.in-None.is at c.outline-o.ensures)

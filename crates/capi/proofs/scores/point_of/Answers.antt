@@ -47,5 +47,5 @@ pub returns-in-Quad : goal.returns-in-Quad
 returns-in-Quad c =
     let a = c.args in
     c.refused.ensures
-    ∙ ap refused_by c.no_shape.ensures
+    ∙ ap refused_by (c.number.ensures ∙ c.no_shape.ensures)
     ∙ sym (ap (λ (x : Kind). point_answer a.w a.h (by_points (Some x)) a.request a.levels.now a.target.now a.canvas.now) c.in-Quad.is)

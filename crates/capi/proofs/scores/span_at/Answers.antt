@@ -23,5 +23,5 @@ pub returns-in-None : goal.returns-in-None
 returns-in-None c =
     let a = c.args in
     c.refused.ensures
-    ∙ ap refused_by c.no_shape.ensures
+    ∙ ap refused_by (c.number.ensures ∙ c.no_shape.ensures)
     ∙ ap (λ (k : Option Kind). span_answer a.w a.h k a.request a.levels.now a.table.now) (rw c.in-None.is at c.outline-o.ensures)
