@@ -141,7 +141,7 @@ fn each_within(xs: &[f32]) -> bool
 }
 
 // v's pattern, or all ones where v is not at most 1: the top bit is clear only where v is within 0..1.
-// Kept: the theorem MarksSays asks for a number. What a loop joins by `|` has to be one; an Option would be a test for each element.
+// Kept: its promise MarksSays is about a number, which a loop joins by `|`; an Option would be a test for each element.
 pub fn marks(v: f32) -> u32
     ensures { MarksSays v result }
 {

@@ -3,11 +3,13 @@ use Rattle.std.specs.Prelude.{◌≡◌, Bool, true, false, ◌&&◌, T, length,
 use Rattle.std.proofs.Math.Path.{refl, sym, ap}
 use Rattle.std.proofs.Common.{◌∙◌, add-one, arith, take-suc, take_all}
 use mathlib.Core.List.{List, [], ◌∷◌, ◌++◌}
-use Prim.Native.Nat.{ℕ, zero, suc, ◌+◌, ◌*◌, ◌<◌, ◌≤◌}
+use Prim.Native.Nat.{ℕ, zero, suc, ◌+◌, ◌-◌, ◌*◌, ◌<◌, ◌≤◌}
 use Rattle.std.proofs.Math.ListN.{take}
+use Rattle.std.proofs.Math.Seq.{take-add}
 use Rattle.std.specs.Float.Ieee.Fits.{and_i, and_l, and_r}
 use Rattle.std.specs.List.{list_all}
 use Rattle.laws.specs.Every.{every}
+use Rattle.laws.specs.Bools.{is_true}
 use Rattle.laws.specs.Rows.{cut}
 
 and_assoc : (a b c : Bool) → a && b && c ≡ a && (b && c)
@@ -71,6 +73,16 @@ module _ {A : Type 0} (p : A → Bool) where
   pub every-cut : (n y : ℕ) (s : List A) → T (every p s) → T (every p (cut n y s))
   unfolding cut
   every-cut n y s h = every_take n (drop (y * n) s) (every_drop (y * n) s h)
+
+  -- all up to e: those up to a, and the part from there on
+  pub every-part : (s : List A) (a e : ℕ) → a ≤ e → T (every p (take a s)) → every p (take (e - a) (drop a s)) ≡ every p (take e s)
+  every-part s a e h t =
+      let b = every p (take (e - a) (drop a s)) in
+      let whole : a + (e - a) ≡ e = omega arith in
+      ap (λ (z : Bool). z && b) (sym (is_true (every p (take a s)) t))
+      ∙ sym (every_append (take a s) (take (e - a) (drop a s)))
+      ∙ sym (ap (every p) (take-add a (e - a) s))
+      ∙ ap (λ (n : ℕ). every p (take n s)) whole
 
   -- after a store
   pub every_set : (s : List A) (i : ℕ) (v : A) → T (every p s) → T (p v) → T (every p (set s i v))

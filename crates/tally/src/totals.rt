@@ -33,20 +33,13 @@ fn part_end(i: usize, n: usize) -> usize
     i + 16
 }
 
-// As `part_within`, of two pictures in one loop.
+// As `part_within`, of two pictures.
 fn both_within(target: &[f32], canvas: &[f32], from: usize, to: usize) -> bool
     requires from_le_to { (from ≤ to) × (to ≤ length target.now) × (to ≤ length canvas.now) }
     requires t { T (all_within (take from target.now)) × T (all_within (take from canvas.now)) }
     ensures { result ≡ all_within (take to target.now) && all_within (take to canvas.now) }
 {
-    let mut seen = 0u32;
-    for k in from..to {
-        seen = seen | (float::marks(target[k]) | float::marks(canvas[k]));
-    }
-    if seen < 0x8000_0000 {
-        return true;
-    }
-    crate::parts::each_within(target, from, to) & crate::parts::each_within(canvas, from, to)
+    crate::parts::part_within(target, from, to) & crate::parts::part_within(canvas, from, to)
 }
 
 // The sum goes on from that of the numbers before `from`. By eights, whose number the compiler knows: it works out two differences
