@@ -2,7 +2,7 @@
 use Rattle.std.specs.Prelude.{◌≡◌, Bool, true, List, ℕ, ◌+◌, ◌*◌, ◌≤◌, ◌<◌, T, length, get_or, Float}
 use Rattle.std.specs.Float.{nan}
 use Rattle.laws.specs.Rows.{cut}
-use Rattle.float.specs.Within.{number, all_numbers, all_within}
+use Rattle.float.specs.Within.{number, all_numbers}
 use Rattle.rows.specs.Places.{row_of}
 
 -- the sizes that the tests let pass
@@ -12,10 +12,6 @@ pub record Sizes (w h : ℕ) (target canvas table : List Float) : Type 0 where
   pub targets : length target ≡ h * (w * 3)
   pub canvases : length canvas ≡ h * (w * 3)
   pub places : length table ≡ h * ((w + 1) * 15)
-
--- a build has tested both pictures
-abbrev pub Tested : Bool → List Float → List Float → Type 0
-Tested whole target canvas = whole ≡ true → T (all_within target) × T (all_within canvas)
 
 -- row y of the table from row y of the pictures: all fifteen sums, or the nine that read the canvas
 unfoldable pub row_at : Bool → ℕ → List Float → List Float → ℕ → List Float → List Float

@@ -5,10 +5,11 @@ ghost use Rattle.std.specs.Prelude.{◌≡◌, true, false, ◌||◌, ℕ, ◌+�
 ghost use Rattle.std.specs.Float.{nan};
 ghost use Rattle.std.specs.Int.Signed.{le_z, lt_z};
 ghost use Rattle.laws.specs.Rows.{cut, put_row, put_rows};
+ghost use Rattle.float.specs.Within.{all_within};
 ghost use Rattle.refusal.specs.Outcomes.{number_of};
 ghost use Rattle.sums.specs.Sums.{three};
 ghost use Rattle.table.specs.Table.{BuildSays, LengthsTestedSays, UpdateCanvasRowsSays, AddSpanSays, ReadPlaceSays};
-ghost use Rattle.table.specs.Fills.{Sizes, Tested, NumbersBetween, RowNumbers, row_at};
+ghost use Rattle.table.specs.Fills.{Sizes, NumbersBetween, RowNumbers, row_at};
 
 use refusal::Refusal;
 use sums::ShapeSums;
@@ -41,7 +42,7 @@ pub fn build(
     if !float::all_within(canvas) {
         return Err(Refusal::Pixel);
     }
-    rebuild_rows(target, canvas, w, h, table, 0, h, true);
+    build_rows(target, canvas, w, h, table);
     Ok(())
 }
 
@@ -61,7 +62,7 @@ pub fn update_canvas_rows(
     lengths_tested(w, h, target.len(), canvas.len(), table.len())?;
     let hi = end_row(ymax, h);
     let lo = first_row(ymin, hi);
-    rebuild_rows(target, canvas, w, h, table, lo, hi, false);
+    update_rows(target, canvas, w, h, table, lo, hi);
     Ok(())
 }
 
@@ -157,9 +158,20 @@ fn first_row(ymin: i32, hi: usize) -> usize
     if first < hi { first } else { hi }
 }
 
-// Rows lo to hi, without hi: all sums, or those that read the canvas. Some at a time, about 256 pixels: they are still near when their
-// sums are worked out, after their test.
-fn rebuild_rows(
+// Every row, of pictures within 0..1.
+fn build_rows(target: &[f32], canvas: &[f32], w: usize, h: usize, table: &mut [f64])
+    requires sizes { Sizes w h target.now canvas.now table.old }
+    requires tested { (all_within target.now ≡ true) × (all_within canvas.now ≡ true) }
+    ensures { table.new ≡ put_rows ((w + 1) * 15) (row_at true w target.now canvas.now) 0 h table.old }
+{
+    for y in 0..h {
+        rebuild_at(target, canvas, w, table, y, true, true);
+    }
+}
+
+// The canvas's sums in rows lo to hi, without hi. Some at a time, about 256 pixels: they are still near when their sums are worked
+// out, after their test.
+fn update_rows(
     target: &[f32],
     canvas: &[f32],
     w: usize,
@@ -167,51 +179,18 @@ fn rebuild_rows(
     table: &mut [f64],
     lo: usize,
     hi: usize,
-    whole: bool,
 )
-    requires sizes { Sizes w h target.now canvas.now table.old × (lo ≤ hi) × (hi ≤ h) }
-    requires tested { Tested whole target.now canvas.now }
-    ensures { table.new ≡ put_rows ((w + 1) * 15) (row_at whole w target.now canvas.now) lo hi table.old }
-{
-    let mut y = lo;
-    while y < hi {
-        let e = some_end(y, hi, w);
-        rebuild_some(target, canvas, w, h, table, y, e, whole);
-        y = e;
-    }
-}
-
-fn some_end(y: usize, hi: usize, w: usize) -> usize
-    requires { (y < hi) × (w ≤ 256) }
-    ensures { (y < result) × (result ≤ hi) }
+    requires { Sizes w h target.now canvas.now table.old × (lo ≤ hi) × (hi ≤ h) }
+    ensures { table.new ≡ put_rows ((w + 1) * 15) (row_at false w target.now canvas.now) lo hi table.old }
 {
     let n = 256 / (w + 1) + 1;
-    if hi - y < n {
-        return hi;
+    for part in 0..(hi - lo).div_ceil(n) {
+        let y = lo + part * n;
+        update_some(target, canvas, w, h, table, y, hi.min(y + n));
     }
-    y + n
 }
 
-// An update goes a quicker way of its own as far as it can.
-fn rebuild_some(
-    target: &[f32],
-    canvas: &[f32],
-    w: usize,
-    h: usize,
-    table: &mut [f64],
-    lo: usize,
-    hi: usize,
-    whole: bool,
-)
-    requires sizes { Sizes w h target.now canvas.now table.old × (lo ≤ hi) × (hi ≤ h) }
-    requires tested { Tested whole target.now canvas.now }
-    ensures { table.new ≡ put_rows ((w + 1) * 15) (row_at whole w target.now canvas.now) lo hi table.old }
-{
-    let y = update_some(target, canvas, w, h, table, lo, hi, whole);
-    rebuild_rest(target, canvas, w, h, table, y, hi, whole);
-}
-
-// Of an update the rows from lo on, if they have no NaN; the answer is the first row that is left. Of a build all rows are left.
+// The same of a few rows. Where they have no NaN the quicker step is taken.
 fn update_some(
     target: &[f32],
     canvas: &[f32],
@@ -220,60 +199,14 @@ fn update_some(
     table: &mut [f64],
     lo: usize,
     hi: usize,
-    whole: bool,
-) -> usize
-    requires { Sizes w h target.now canvas.now table.old × (lo ≤ hi) × (hi ≤ h) }
-    ensures { (lo ≤ result) × (result ≤ hi) × (table.new ≡ put_rows ((w + 1) * 15) (row_at whole w target.now canvas.now) lo result table.old) }
-{
-    if whole {
-        return lo;
-    }
-    if !rows_numbers(target, canvas, w, lo, hi) {
-        return lo;
-    }
-    for y in lo..hi {
-        update_at(target, canvas, w, table, y);
-    }
-    hi
-}
-
-fn rebuild_rest(
-    target: &[f32],
-    canvas: &[f32],
-    w: usize,
-    h: usize,
-    table: &mut [f64],
-    lo: usize,
-    hi: usize,
-    whole: bool,
 )
-    requires sizes { Sizes w h target.now canvas.now table.old × (lo ≤ hi) × (hi ≤ h) }
-    requires tested { Tested whole target.now canvas.now }
-    ensures { table.new ≡ put_rows ((w + 1) * 15) (row_at whole w target.now canvas.now) lo hi table.old }
+    requires { Sizes w h target.now canvas.now table.old × (lo ≤ hi) × (hi ≤ h) }
+    ensures { table.new ≡ put_rows ((w + 1) * 15) (row_at false w target.now canvas.now) lo hi table.old }
 {
-    let numbers = known_numbers(target, canvas, w, lo, hi, whole);
+    let numbers = rows_numbers(target, canvas, w, lo, hi);
     for y in lo..hi {
-        rebuild_at(target, canvas, w, table, y, whole, numbers);
+        rebuild_at(target, canvas, w, table, y, false, numbers);
     }
-}
-
-// Rows lo to hi of both pictures have no NaN: those of a build, which were all tested, or by a look at them.
-fn known_numbers(
-    target: &[f32],
-    canvas: &[f32],
-    w: usize,
-    lo: usize,
-    hi: usize,
-    whole: bool,
-) -> bool
-    requires w_bound { (w ≤ 256) × (lo ≤ hi) × (hi ≤ 256) × (hi * (w * 3) ≤ length target.now) × (hi * (w * 3) ≤ length canvas.now) }
-    requires tested { Tested whole target.now canvas.now }
-    ensures { result ≡ true → NumbersBetween (lo * (w * 3)) (hi * (w * 3)) target.now canvas.now }
-{
-    if !whole {
-        return rows_numbers(target, canvas, w, lo, hi);
-    }
-    true
 }
 
 // Rows lo to hi of both pictures have no NaN.
@@ -321,22 +254,6 @@ fn rebuild_at(
         w,
         whole,
         numbers,
-    );
-}
-
-// The same for the nine, of a row without a NaN.
-fn update_at(target: &[f32], canvas: &[f32], w: usize, table: &mut [f64], y: usize)
-    requires w_bound { (w ≤ 256) × (y * (w * 3) + w * 3 ≤ length target.now) × (y * (w * 3) + w * 3 ≤ length canvas.now) × (y * ((w + 1) * 15) + (w + 1) * 15 ≤ length table.old) }
-    requires row_numbers { RowNumbers true (w * 3) y target.now canvas.now }
-    ensures { table.new ≡ put_row ((w + 1) * 15) y (row_at false w target.now canvas.now y (cut ((w + 1) * 15) y table.old)) table.old }
-{
-    let n = (w + 1) * 15;
-    let a = y * n;
-    rows::update_row(
-        &mut table[a..a + n],
-        row_of(target, y, w * 3),
-        row_of(canvas, y, w * 3),
-        w,
     );
 }
 

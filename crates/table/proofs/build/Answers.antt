@@ -1,12 +1,9 @@
-use native.Mathlib.Omega.{arith}
 use mathlib.Core.Path.{sym, ap, ◌∙◌, subst}
 use Rattle.std.proofs.Math.Bool.{not}
 use Rattle.std.proofs.Common.{rules}
 use Rattle.std.specs.Prelude.{◌≡◌}
 use Rattle.refusal.specs.Outcomes.{number, number_of}
 use Rattle.refusal.specs.OutcomeLaws.{number-positive}
-use Rattle.laws.specs.Bools.{true_is}
-use Rattle.float.specs.Within.{all_within}
 use Rattle.table.specs.Table.{Table, update_refusal}
 use Rattle.table.specs.FillLaws.{built}
 use Rattle.table.specs.TestLaws.{build_refused, bad_target, bad_canvas, build_pixel, build_done, sizes}
@@ -30,13 +27,13 @@ returns-then-not-all_within-2 c =
     let a = c.args in
     build_pixel a.target.now a.canvas.now a.w a.h a.table.now (sym c.in_ok-lengths_tested.ensures) (bad_canvas a.target.now a.canvas.now a.w a.h a.table.now _ c.all_within-2.ensures (ap not c.if-not-all_within-2.true))
 
-pub rebuild_rows-requires : goal.rebuild_rows-requires
+pub build_rows-requires : goal.build_rows-requires
 unfolding update_refusal
-rebuild_rows-requires c =
+build_rows-requires c =
     let a = c.args in
     let good = sym c.all_within.ensures ∙ c.if-not-all_within.false in
     let kept = sym c.all_within-2.ensures ∙ c.if-not-all_within-2.false in
-    record { sizes = (sizes a.target.now a.canvas.now a.w a.h a.table.now (sym c.in_ok-lengths_tested.ensures), omega arith, omega arith); tested = λ _. (true_is (all_within a.target.now) good, true_is (all_within a.canvas.now) kept) }
+    record { sizes = sizes a.target.now a.canvas.now a.w a.h a.table.now (sym c.in_ok-lengths_tested.ensures); tested = (good, kept) }
 
 pub returns : goal.returns
 unfolding update_refusal
@@ -44,4 +41,4 @@ returns c =
     let a = c.args in
     let e = sym c.in_ok-lengths_tested.ensures in
     build_done a.target.now a.canvas.now a.w a.h a.table.now _ e (sym c.all_within.ensures ∙ c.if-not-all_within.false) (sym c.all_within-2.ensures ∙ c.if-not-all_within-2.false)
-    (subst (Table a.w a.h a.target.now a.canvas.now) (sym c.rebuild_rows.ensures) (built a.w a.h a.target.now a.canvas.now a.table.now (sizes a.target.now a.canvas.now a.w a.h a.table.now e).places))
+    (subst (Table a.w a.h a.target.now a.canvas.now) (sym c.build_rows.ensures) (built a.w a.h a.target.now a.canvas.now a.table.now (sizes a.target.now a.canvas.now a.w a.h a.table.now e).places))

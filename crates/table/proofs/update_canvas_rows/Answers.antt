@@ -1,10 +1,9 @@
 use mir.Facts.{to_z-of_z}
-use mathlib.Core.Path.{refl, sym, ◌∙◌, subst}
+use mathlib.Core.Path.{sym, ◌∙◌, subst}
 use Rattle.std.proofs.Common.{rules}
 use Rattle.std.specs.Prelude.{◌≡◌}
 use Rattle.refusal.specs.Outcomes.{number, number_of}
 use Rattle.refusal.specs.OutcomeLaws.{number-positive}
-use Rattle.laws.specs.Fit.{no_both}
 use Rattle.table.specs.Table.{Updated, update_refusal}
 use Rattle.table.specs.FillLaws.{updated}
 use Rattle.table.specs.TestLaws.{update_refused, update_done, sizes}
@@ -18,11 +17,11 @@ returns-in_err-lengths_tested c =
     let k : number_of c.from_residual.result ≡ number c.in_err-lengths_tested.field-0.0 = search rules in
     update_refused a.target.now a.canvas.now a.w a.h a.table.now a.ymin a.ymax _ (k ∙ c.in_err-lengths_tested.ensures) (λ z. number-positive c.in_err-lengths_tested.field-0.0 (sym k ∙ z))
 
-pub rebuild_rows-requires : goal.rebuild_rows-requires
+pub update_rows-requires : goal.update_rows-requires
 unfolding update_refusal
-rebuild_rows-requires c =
+update_rows-requires c =
     let a = c.args in
-    record { sizes = (sizes a.target.now a.canvas.now a.w a.h a.table.now (sym (c.in_ok-lengths_tested.ensures)), c.first_row-lo.ensures.0, c.end_row-hi.ensures.0); tested = λ e. no_both e refl }
+    (sizes a.target.now a.canvas.now a.w a.h a.table.now (sym (c.in_ok-lengths_tested.ensures)), c.first_row-lo.ensures.0, c.end_row-hi.ensures.0)
 
 pub returns : goal.returns
 unfolding update_refusal
@@ -32,6 +31,6 @@ returns c =
     let hi = c.end_row-hi.ensures in
     let lo = c.first_row-lo.ensures in
     update_done a.target.now a.canvas.now a.w a.h a.table.now a.ymin a.ymax _ e
-    (subst (Updated a.w a.h a.target.now a.canvas.now a.ymin a.ymax a.table.now) (sym c.rebuild_rows.ensures)
+    (subst (Updated a.w a.h a.target.now a.canvas.now a.ymin a.ymax a.table.now) (sym c.update_rows.ensures)
     (updated a.w a.h a.target.now a.canvas.now a.table.now (sizes a.target.now a.canvas.now a.w a.h a.table.now e).places _ _ lo.0 hi.0 a.ymin a.ymax
     (λ y l. rw (to_z-of_z, c.ranges.ymin) at (lo.1 y l)) (λ y l. rw (to_z-of_z, c.ranges.ymax) at (hi.1 y l))))

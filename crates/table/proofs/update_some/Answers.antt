@@ -1,38 +1,30 @@
-use mathlib.Core.Path.{◌≡◌, sym, ap, ◌∙◌}
+use mathlib.Core.Path.{◌≡◌, sym, ◌∙◌}
 use mathlib.Core.Bool.{false}
-use Prim.Native.Nat.{◌+◌, ◌*◌}
-use Rattle.laws.specs.Rows.{put_rows}
+use Prim.Native.Nat.{◌*◌}
 use Rattle.laws.specs.RowLaws.{put_rows-none}
-use Rattle.table.specs.Fills.{row_at}
 use Rattle.table.specs.LentLaws.{rows_within, row_within, row_more, row_numbers}
 use native.Mathlib.Omega.{arith}
 use Rattle.table.proofs.update_some.Goals as goal
 
 -- `update_some`: the rows from lo to y are written.
 
-pub returns-then-whole : goal.returns-then-whole
-returns-then-whole c = (omega arith, c.requires.1, sym (put_rows-none _ _ _ _))
-
-pub rows_numbers-requires : goal.rows_numbers-requires
-rows_numbers-requires c =
+pub rows_numbers-numbers-requires : goal.rows_numbers-numbers-requires
+rows_numbers-numbers-requires c =
     rows_within c.args.w c.args.h c.args.lo c.args.hi _ _ _ c.requires.0 c.requires.1 c.requires.2
 
-pub returns-then-not-rows_numbers : goal.returns-then-not-rows_numbers
-returns-then-not-rows_numbers c = (omega arith, c.requires.1, sym (put_rows-none _ _ _ _))
-
 pub loop-y-init : goal.loop-y-init
-loop-y-init c = (omega arith, c.requires.1, sym (put_rows-none _ _ _ _), c.requires.0.places)
+loop-y-init c = (omega arith, omega arith, sym (put_rows-none _ _ _ _), c.requires.0.places)
 
-pub update_at-requires : goal.update_at-requires
-update_at-requires c =
+pub rebuild_at-requires : goal.rebuild_at-requires
+rebuild_at-requires c =
     let a = c.args in
-    let l = c.loop-y in record { w_bound = row_within false a.w a.h a.target.now a.canvas.now a.lo l.y a.table.now l.table c.requires.0 l.invariant.3 (omega arith); row_numbers = λ e. row_numbers (a.w * 3) l.y a.lo a.hi a.h a.target.now a.canvas.now l.invariant.0 (omega arith) c.requires.2 c.requires.0.targets c.requires.0.canvases (c.rows_numbers.ensures c.if-not-rows_numbers.false) }
+    let l = c.loop-y in record { w_bound = row_within false a.w a.h a.target.now a.canvas.now a.lo l.y a.table.now l.table c.requires.0 l.invariant.3 (omega arith); row_numbers = λ e. row_numbers (a.w * 3) l.y a.lo a.hi a.h a.target.now a.canvas.now l.invariant.0 (omega arith) c.requires.2 c.requires.0.targets c.requires.0.canvases (c.rows_numbers-numbers.ensures e) }
 
 pub loop-y-preserved : goal.loop-y-preserved
 loop-y-preserved c =
     let a = c.args in
     let l = c.loop-y in
-    let r = c.update_at in (
+    let r = c.rebuild_at in (
       omega arith,
       omega arith,
       row_more false a.w a.h a.target.now a.canvas.now a.lo l.y a.table.now l.table l.invariant.0 l.invariant.2 _ r.ensures,
@@ -41,7 +33,5 @@ loop-y-preserved c =
 
 pub returns : goal.returns
 returns c =
-    let a = c.args in
-    let l = c.loop-y in
-    let e : l.y ≡ a.hi = omega arith in
-    (c.requires.1, omega arith, (rw e at l.invariant.2) ∙ ap (λ b. put_rows ((a.w + 1) * 15) (row_at b a.w a.target.now a.canvas.now) a.lo a.hi a.table.now) (sym c.if-whole.false))
+    let e : c.loop-y.y ≡ c.args.hi = omega arith in
+    rw e at c.loop-y.invariant.2
