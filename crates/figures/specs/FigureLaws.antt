@@ -1,7 +1,11 @@
 -- Laws: two answers are equal; a turn of each loop, and its end.
-use Rattle.std.specs.Prelude.{◌≡◌, refl, true, false, cond, List, [], ◌∷◌, ◌++◌, ℕ, suc, ◌+◌, ◌-◌, ◌≤◌, ◌<◌, length, take, drop, get_or, set, Float}
-use Rattle.std.proofs.Common.{sym, ◌∙◌, append-nil, add-one, arith, drop_of_length-le, take-suc-set, take_all, drop-cons}
+use Rattle.std.specs.Prelude.{◌≡◌, refl, cond, List, [], ◌∷◌, ◌++◌, ℕ, suc, ◌+◌, ◌-◌, ◌≤◌, ◌<◌, length, take, set, Float}
+use Rattle.std.proofs.Common.{sym, ◌∙◌, append-nil, add-one, arith, take-suc-set, take_all}
 use Rattle.std.proofs.Math.Seq.{append_snoc}
+use Rattle.std.specs.Prelude.{count_by}
+use Rattle.std.specs.List.{zip}
+use Rattle.std.proofs.Common.{ap}
+use Rattle.std.proofs.lemmas.List.Sums.{sum_by-cons}
 use Rattle.std.specs.Float.Ieee.{ne}
 use Rattle.laws.specs.F32.{◌⊞◌}
 use Rattle.figures.specs.Figures.{slope_from, differences, SlopeSays, DifferingSays}
@@ -35,32 +39,12 @@ slope-end l n i x s e h =
     let k : n - i ≡ 0 = omega arith in
     rw (k, take_all i l (omega arith)) (sym (append-nil l))
 
--- ---- differences from a place on
+-- ---- differences are pairs that differ
 
-abbrev pub after : List Float → List Float → ℕ → ℕ
-after a b i = differences (drop i a) (drop i b)
-
-after_next : (a b : List Float) (i : ℕ) (d : Float) → i < length a → i < length b
-    → after a b i ≡ cond (ne (get_or a i d) (get_or b i d)) 1 0 + after a b (i + 1)
+pub differences-count : (a b : List Float) → differences a b ≡ count_by (λ p. ne p.0 p.1) (zip a b)
 unfolding differences
-after_next a b i d h k = rw (add-one i, drop-cons a i d h, drop-cons b i d k) refl
-
-pub after_differs : (a b : List Float) (i : ℕ) (d : Float) → i < length a → i < length b → ne (get_or a i d) (get_or b i d) ≡ true
-    → after a b i ≡ 1 + after a b (i + 1)
-after_differs a b i d h k e = after_next a b i d h k ∙ rw e refl
-
-pub after_alike : (a b : List Float) (i : ℕ) (d : Float) → i < length a → i < length b → ne (get_or a i d) (get_or b i d) ≡ false
-    → after a b i ≡ after a b (i + 1)
-after_alike a b i d h k e = after_next a b i d h k ∙ rw e (omega arith)
-
-pub after-left : (a b : List Float) (i : ℕ) → length a ≤ i → after a b i ≡ 0
-unfolding differences
-after-left a b i h = rw (drop_of_length-le a {i = i} h) refl
-
-nothing_right : (a : List Float) → differences a [] ≡ 0
-unfolding differences
-nothing_right [] = refl
-nothing_right (x ∷ a) = refl
-
-pub after-right : (a b : List Float) (i : ℕ) → length b ≤ i → after a b i ≡ 0
-after-right a b i h = rw (drop_of_length-le b {i = i} h) (nothing_right (drop i a))
+differences-count [] b = refl
+differences-count (x ∷ a) [] = refl
+differences-count (x ∷ a) (y ∷ b) =
+    ap (λ n. cond (ne x y) 1 0 + n) (differences-count a b)
+    ∙ sym (sum_by-cons (λ p. cond (ne p.0 p.1) 1 0) (x, y) (zip a b))

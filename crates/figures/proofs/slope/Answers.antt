@@ -1,25 +1,22 @@
-use mathlib.Core.Path.{refl, ◌∙◌}
-use lib.ListN.{length, length-set}
+use mathlib.Core.Path.{◌∙◌}
 use Rattle.figures.specs.FigureLaws.{slope-start, slope-next, slope-end}
+use Rattle.std.proofs.Common.{length}
 use native.Mathlib.Omega.{arith}
 use Rattle.figures.proofs.slope.Goals as goal
 
 -- What is written, and the slope that is to come, are the whole slope.
 
-pub loop-i-init : goal.loop-i-init
-loop-i-init c = (omega arith, refl, slope-start _ _ _)
+pub loop-y-init : goal.loop-y-init
+loop-y-init c = slope-start _ _ _
 
-pub loop-i-preserved : goal.loop-i-preserved
-loop-i-preserved c =
-    let l = c.loop-i in
-    let a = c.args in (
-      omega (arith, l.invariant.1),
-      length-set l.xs l.i l.x ∙ l.invariant.1,
-      slope-next l.xs (length a.xs.now) l.i l.x a.step l.invariant.1 (omega (arith, l.invariant.1)) ∙ l.invariant.2,
-    )
+pub loop-y-preserved : goal.loop-y-preserved
+loop-y-preserved c =
+    let l = c.loop-y in
+    let a = c.args in
+    slope-next l.xs (length a.xs.now) l.y-index l.x a.step (omega arith) (omega arith) ∙ l.invariant
 
 pub returns : goal.returns
 returns c =
-    let l = c.loop-i in
+    let l = c.loop-y in
     let a = c.args in
-    slope-end l.xs (length a.xs.now) l.i l.x a.step l.invariant.1 (omega (arith, l.invariant.1)) ∙ l.invariant.2
+    slope-end l.xs (length a.xs.now) l.y-index l.x a.step (omega arith) (omega arith) ∙ l.invariant
