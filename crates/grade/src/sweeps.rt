@@ -101,25 +101,7 @@ pub fn sweep(s: ShapeSums, levels: &[f32], n: usize) -> Score
     let Some(opacity) = best else {
         return crate::no_score(levels[0], s.count);
     };
-    let t = s.s_t;
-    let c = s.s_c;
-    let m = crate::rest_of(opacity);
-    crate::parts::finalize_from(
-        s,
-        opacity,
-        s.count,
-        s.count as f64,
-        t[0],
-        t[1],
-        t[2],
-        c[0],
-        c[1],
-        c[2],
-        before,
-        crate::left_at(s, 0, m),
-        crate::left_at(s, 1, m),
-        crate::left_at(s, 2, m),
-    )
+    crate::finalize_with(s, opacity, before)
 }
 
 // A level count is 1 to 64.

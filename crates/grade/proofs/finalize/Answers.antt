@@ -1,11 +1,9 @@
-use mathlib.Core.Path.{refl}
-use Rattle.grade.specs.PartLaws.{parted}
 use Rattle.grade.proofs.finalize.Goals as goal
 
--- `grade::finalize` meets its contract: the numbers that it hands on are those of the sums.
+-- `grade::finalize` meets its contract: the errors before are those of the sums.
 
-pub finalize_from-requires : goal.finalize_from-requires
-finalize_from-requires c =
-    let x = c.args in
-    let d = parted x.s x.opacity c.rest_of-m.result _ _ _ c.rest_of-m.ensures c.left_at.ensures c.left_at-2.ensures c.left_at-3.ensures in
-    record { count = refl {a = x.s.count}; before = c.all_before.ensures; parts = d }
+pub finalize_with-requires : goal.finalize_with-requires
+finalize_with-requires c = c.all_before.ensures
+
+pub returns : goal.returns
+returns c = c.finalize_with.ensures

@@ -5,7 +5,6 @@ use lib.ListN.{get_or, take}
 use Rattle.std.proofs.lemmas.List.{get_or-take, length-take-le}
 use Rattle.std.specs.Prelude.{List, Some, None}
 use Rattle.grade.specs.Finalize.{finalized}
-use Rattle.grade.specs.PartLaws.{parted}
 use Rattle.grade.specs.Sweep.{change_at, best_of}
 use Rattle.grade.specs.SweepLaws.{best_of-taken, best_of-kept, swept-nothing, level_found, swept_none, swept-some}
 use Rattle.grade.specs.Swept.{level, change_of, swept}
@@ -66,10 +65,4 @@ pub returns : goal.returns
 unfolding swept
 returns c =
     let g = c.args in
-    swept-some g.s g.levels.now (best_of (change_of g.s g.levels.now) g.n) c.in-Some.opacity c.finalize_from.result (sym c.in-Some.is ∙ found (goal.at.returns c).After-loop-level) c.finalize_from.ensures
-
-pub finalize_from-requires : goal.finalize_from-requires
-finalize_from-requires c =
-    let g = c.args in
-    let d = parted g.s c.in-Some.opacity c.rest_of-m.result _ _ _ c.rest_of-m.ensures c.left_at.ensures c.left_at-2.ensures c.left_at-3.ensures in
-    record { count = refl {a = g.s.count}; before = c.all_before-before.ensures; parts = d }
+    swept-some g.s g.levels.now (best_of (change_of g.s g.levels.now) g.n) c.in-Some.opacity c.finalize_with.result (sym c.in-Some.is ∙ found (goal.at.returns c).After-loop-level) c.finalize_with.ensures
