@@ -16,6 +16,7 @@ ghost use Rattle.refine.specs.Passes.{untried, restarted, answered};
 use crate::Refined;
 use picture::Colour;
 use shapes::{Candidates, Shape, Shapes};
+use traces::Strokes;
 use trials::Course;
 
 // ---- pictures
@@ -28,15 +29,14 @@ fn draw(
     green: f32,
     blue: f32,
     n: usize,
-    runs: &[u16; 33280],
-    paints: &[f32; 260],
+    strokes: &Strokes,
     canvas: &mut [f32],
 )
-    requires { Tabled w h n runs.now paints.now × (bad_colour red green blue ≡ false) × (length canvas.old ≡ h * w * 3) }
-    ensures { T (all_within canvas.new) × ((l : List Shape) → Traced w h l runs.now paints.now → n ≤ length l → canvas.new ≡ painted_on (shape_painted w h) (filled w h red green blue) (slice 0 n l)) }
+    requires { Tabled w h n strokes.now.runs strokes.now.paints × (bad_colour red green blue ≡ false) × (length canvas.old ≡ h * w * 3) }
+    ensures { T (all_within canvas.new) × ((l : List Shape) → Traced w h l strokes.now.runs strokes.now.paints → n ≤ length l → canvas.new ≡ painted_on (shape_painted w h) (filled w h red green blue) (slice 0 n l)) }
 {
     picture::fill(w, h, Colour { red, green, blue }, canvas);
-    traces::paint_all(w, h, 0, n, runs, paints, canvas);
+    strokes.paint_all(w, h, 0, n, canvas);
 }
 
 // The sums of a picture, row by row.
@@ -66,17 +66,16 @@ pub(crate) fn start(
     first: &mut [f32],
     second: &mut [f32],
     sums: &mut [f64; 257],
-    runs: &mut [u16; 33280],
-    paints: &mut [f32; 260],
+    strokes: &mut Strokes,
 ) -> Course
     requires drawable { Drawable w h list × (bad_colour red green blue ≡ false) × Targeted w h target.now × (length first.old ≡ h * w * 3) × (length second.old ≡ h * w * 3) }
-    requires sums_len { (length sums.old ≡ 257) × (length runs.old ≡ 33280) × (length paints.old ≡ 260) }
+    requires sums_len { (length sums.old ≡ 257) × (length strokes.old.runs ≡ 33280) × (length strokes.old.paints ≡ 260) }
     ensures { (result ≡ untried list (total_of target.now (painted_on (shape_painted w h) (filled w h red green blue) (listed list))))
-        × Aided w h target.now (filled w h red green blue) (listed list) (aids_of second.new sums.new runs.new paints.new) }
+        × Aided w h target.now (filled w h red green blue) (listed list) (aids_of second.new sums.new strokes.new.runs strokes.new.paints) }
 {
-    traces::trace_list(w, h, list, runs, paints);
+    strokes.trace_list(w, h, list);
     picture::fill(w, h, Colour { red, green, blue }, second);
-    draw(w, h, red, green, blue, list.count, runs, paints, first);
+    draw(w, h, red, green, blue, list.count, strokes, first);
     sum_rows(w, h, target, first, sums);
     let old = sums[h];
     Course {
@@ -157,17 +156,16 @@ pub(crate) fn finish(
     green: f32,
     blue: f32,
     n: usize,
-    runs: &[u16; 33280],
-    paints: &[f32; 260],
+    strokes: &Strokes,
     first: &mut [f32],
     second: &mut [f32],
 )
-    requires { Tabled w h n runs.now paints.now × (bad_colour red green blue ≡ false) × (length first.old ≡ h * w * 3) × (length second.old ≡ h * w * 3) }
-    ensures { (l : List Shape) → Traced w h l runs.now paints.now → n ≤ length l
+    requires { Tabled w h n strokes.now.runs strokes.now.paints × (bad_colour red green blue ≡ false) × (length first.old ≡ h * w * 3) × (length second.old ≡ h * w * 3) }
+    ensures { (l : List Shape) → Traced w h l strokes.now.runs strokes.now.paints → n ≤ length l
         → (first.new ≡ painted_on (shape_painted w h) (filled w h red green blue) (slice 0 n l)) × (second.new ≡ painted_on (shape_painted w h) (filled w h red green blue) (slice 0 n l)) }
 {
-    draw(w, h, red, green, blue, n, runs, paints, first);
-    draw(w, h, red, green, blue, n, runs, paints, second);
+    draw(w, h, red, green, blue, n, strokes, first);
+    draw(w, h, red, green, blue, n, strokes, second);
 }
 
 pub(crate) fn answer(c: Course) -> Refined

@@ -7,6 +7,7 @@ ghost use Rattle.refine.specs.Answers.{told, refused_with, RefineShapesSays};
 
 use refusal::Refusal;
 use shapes::{Candidates, Shapes};
+use traces::Strokes;
 
 pub(crate) mod courses;
 pub(crate) mod tests;
@@ -68,8 +69,10 @@ pub fn refine_shapes(
     }
     let n = list.count;
     let mut sums = [0.0f64; 257];
-    let mut runs = [0u16; 33280];
-    let mut paints = [0.0f32; 260];
+    let mut strokes = Strokes {
+        runs: [0; 33280],
+        paints: [0.0; 260],
+    };
     let mut c = courses::start(
         w,
         h,
@@ -81,8 +84,7 @@ pub fn refine_shapes(
         first,
         second,
         &mut sums,
-        &mut runs,
-        &mut paints,
+        &mut strokes,
     );
     let mut limit = courses::most(n, passes);
     while c.passes < limit {
@@ -99,12 +101,11 @@ pub fn refine_shapes(
                 first,
                 second,
                 &mut sums,
-                &mut runs,
-                &mut paints,
+                &mut strokes,
             );
         }
         limit = courses::still(c, before, limit);
     }
-    courses::finish(w, h, red, green, blue, n, &runs, &paints, first, second);
+    courses::finish(w, h, red, green, blue, n, &strokes, first, second);
     courses::answer(c)
 }

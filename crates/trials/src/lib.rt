@@ -18,6 +18,7 @@ ghost use Rattle.trials.specs.Courses.{Targeted, SummedTo, Spanned, Apart, Judge
 
 use cover::reached::Rows;
 use shapes::{Shape, Shapes};
+use traces::Strokes;
 
 // How far refinement has come: the list, the place j of the next trial and the three counts of the answer; how many shapes the
 // first work picture has, and the total of the whole list.
@@ -57,13 +58,16 @@ fn spanned(w: usize, h: usize, s: Shape, x: Shape) -> Rows
 }
 
 // The numbers from `start` up to `end`; the others stay.
+// Kept: by copy_from_slice a trial takes 302 us, and by this loop 277 (rejected, large, noise, 256 by 256); the bar is the loop.
 fn copy(from: &[f32], start: usize, end: usize, to: &mut [f32])
     requires { (length from.now ≡ length to.old) × (start ≤ end) × (end ≤ length to.old) }
     ensures { ((i : ℕ) → start ≤ i → i < end → get_or to.new i nan ≡ get_or from.now i nan)
         × ((i : ℕ) → i < start → get_or to.new i nan ≡ get_or to.old i nan)
         × ((i : ℕ) → end ≤ i → get_or to.new i nan ≡ get_or to.old i nan) }
 {
-    to[start..end].copy_from_slice(&from[start..end]);
+    for i in start..end {
+        to[i] = from[i];
+    }
 }
 
 // Row y of a trial's picture is drawn on `second`, over the shapes before j that `first` has, and added to the sum.
@@ -74,21 +78,20 @@ fn try_row(
     y: usize,
     from: usize,
     to: usize,
-    runs: &[u16; 33280],
-    paints: &[f32; 260],
+    strokes: &Strokes,
     first: &[f32],
     second: &mut [f32],
     sum: f64,
 ) -> f64
-    requires tabled { Tabled w h to runs.now paints.now × (y < h) × (from ≤ to) }
+    requires tabled { Tabled w h to strokes.now.runs strokes.now.paints × (y < h) × (from ≤ to) }
     requires targeted { Targeted w h target.now × (length first.now ≡ h * w * 3) × (length second.old ≡ h * w * 3) × T (all_within first.now) × T (all_within second.old) }
-    ensures { T (all_within second.new) × ((l : List Shape) → Traced w h l runs.now paints.now → to ≤ length l
+    ensures { T (all_within second.new) × ((l : List Shape) → Traced w h l strokes.now.runs strokes.now.paints → to ≤ length l
         → result ≡ total_on target.now (painted_on (shape_painted w h) first.now (slice from to l)) sum (y * w * 3) (w * 3)) }
 {
     let start = y * w * 3;
     let n = w * 3;
     copy(first, start, start + n, second);
-    traces::paint_row(w, h, y, from, to, runs, paints, second);
+    strokes.paint_row(w, h, y, from, to, second);
     tally::running::total_on(target, second, start, n, sum)
 }
 
@@ -103,16 +106,15 @@ fn try_rows(
     to: usize,
     top: usize,
     bottom: usize,
-    runs: &[u16; 33280],
-    paints: &[f32; 260],
+    strokes: &Strokes,
     sums: &[f64; 257],
     first: &[f32],
     second: &mut [f32],
     trial: &mut [f64; 257],
 ) -> f64
-    requires tabled { Tabled w h to runs.now paints.now × (from ≤ to) × (top ≤ bottom) × (bottom ≤ h) × (trial.old ≡ sums.now) × (length trial.old ≡ 257) }
+    requires tabled { Tabled w h to strokes.now.runs strokes.now.paints × (from ≤ to) × (top ≤ bottom) × (bottom ≤ h) × (trial.old ≡ sums.now) × (length trial.old ≡ 257) }
     requires targeted { Targeted w h target.now × (length first.now ≡ h * w * 3) × (length second.old ≡ h * w * 3) × T (all_within first.now) × T (all_within second.old) }
-    ensures { T (all_within second.new) × (length trial.new ≡ 257) × ((l : List Shape) (q : List Float) → Traced w h l runs.now paints.now → to ≤ length l
+    ensures { T (all_within second.new) × (length trial.new ≡ 257) × ((l : List Shape) (q : List Float) → Traced w h l strokes.now.runs strokes.now.paints → to ≤ length l
         → Apart w h top bottom q (painted_on (shape_painted w h) first.now (slice from to l)) → SummedTo w h target.now q sums.now
         → Judged w h target.now (painted_on (shape_painted w h) first.now (slice from to l)) sums.now trial.new result) }
 {
@@ -122,7 +124,7 @@ fn try_rows(
         if sums[mark] <= sum {
             return sums[h];
         }
-        sum = try_row(w, h, target, y, from, to, runs, paints, first, second, sum);
+        sum = try_row(w, h, target, y, from, to, strokes, first, second, sum);
         trial[y + 1] = sum;
     }
     sum
@@ -141,24 +143,23 @@ fn try_candidate(
     first: &mut [f32],
     second: &mut [f32],
     sums: &[f64; 257],
-    runs: &mut [u16; 33280],
-    paints: &mut [f32; 260],
+    strokes: &mut Strokes,
     trial: &mut [f64; 257],
 ) -> f64
-    requires drawable { Drawable w h list × (made ≤ j) × (j < list.count) × T (fits x) × Traced w h (listed list) runs.old paints.old × (trial.old ≡ sums.now) × (length trial.old ≡ 257) }
+    requires drawable { Drawable w h list × (made ≤ j) × (j < list.count) × T (fits x) × Traced w h (listed list) strokes.old.runs strokes.old.paints × (trial.old ≡ sums.now) × (length trial.old ≡ 257) }
     requires targeted { Targeted w h target.now × (length first.old ≡ h * w * 3) × (length second.old ≡ h * w * 3) × T (all_within first.old) × T (all_within second.old) }
     ensures { (first.new ≡ painted_on (shape_painted w h) first.old (slice made j (listed list ++ (x ∷ []))))
         × T (all_within first.new)
         × T (all_within second.new)
-        × Traced w h (listed list ++ (x ∷ [])) runs.new paints.new
+        × Traced w h (listed list ++ (x ∷ [])) strokes.new.runs strokes.new.paints
         × (SummedTo w h target.now (painted_on (shape_painted w h) first.new (slice j list.count (listed list ++ (x ∷ [])))) sums.now
         → Judged w h target.now (shape_painted w h x (painted_on (shape_painted w h) first.new (slice (j + 1) list.count (listed list ++ (x ∷ []))))) sums.now trial.new result) }
 {
     let n = list.count;
     let s = list.items[j];
     let rows = spanned(w, h, s, x);
-    traces::trace(w, h, x, n, runs, paints);
-    traces::paint_all(w, h, made, j, runs, paints, first);
+    strokes.trace(w, h, x, n);
+    strokes.paint_all(w, h, made, j, first);
     try_rows(
         w,
         h,
@@ -167,8 +168,7 @@ fn try_candidate(
         n + 1,
         rows.top,
         rows.bottom,
-        runs,
-        paints,
+        strokes,
         sums,
         first,
         second,
@@ -214,11 +214,10 @@ pub fn step(
     first: &mut [f32],
     second: &mut [f32],
     sums: &mut [f64; 257],
-    runs: &mut [u16; 33280],
-    paints: &mut [f32; 260],
+    strokes: &mut Strokes,
 ) -> Course
-    requires { Ready w h target.now c what first.old second.old sums.old runs.old paints.old }
-    ensures { StepSays w h target.now c what first.old (aids_of second.old sums.old runs.old paints.old) result first.new (aids_of second.new sums.new runs.new paints.new) }
+    requires { Ready w h target.now c what first.old second.old sums.old strokes.old.runs strokes.old.paints }
+    ensures { StepSays w h target.now c what first.old (aids_of second.old sums.old strokes.old.runs strokes.old.paints) result first.new (aids_of second.new sums.new strokes.new.runs strokes.new.paints) }
 {
     match what {
         None => rise(c, c.made),
@@ -227,11 +226,11 @@ pub fn step(
             let j = c.place;
             let mut trial = *sums;
             let new = try_candidate(
-                w, h, target, list, c.made, j, x, first, second, sums, runs, paints, &mut trial,
+                w, h, target, list, c.made, j, x, first, second, sums, strokes, &mut trial,
             );
             if new + 1e-9 < c.old {
                 *sums = trial;
-                traces::drop_column(h, j, list.count, runs, paints);
+                strokes.drop_column(h, j, list.count);
                 let list = shapes::exchange(list, j, x);
                 accept(c, list, new)
             } else {

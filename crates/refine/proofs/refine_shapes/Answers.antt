@@ -91,7 +91,7 @@ loop-c-init c =
     let z = sizes (goal.at.loop-c-init c).In_default in
     let r = ranges (goal.at.loop-c-init c).In_default in
     let u = c.start-c in
-    started (scene_at (goal.at.loop-c-init c).Start) (size_at (goal.at.loop-c-init c).Start) (served_at (goal.at.loop-c-init c).Start) a.list u.new.first (aids_of u.new.second u.new.sums u.new.runs u.new.paints) a.passes c.most-limit.result u.result u.ensures.0 u.ensures.1 z.few_shapes (items-long (goal.at.loop-c-init c).Start) (list-fits a.list a.candidates r.fitting)
+    started (scene_at (goal.at.loop-c-init c).Start) (size_at (goal.at.loop-c-init c).Start) (served_at (goal.at.loop-c-init c).Start) a.list u.new.first (aids_of u.new.second u.new.sums u.new.strokes.runs u.new.strokes.paints) a.passes c.most-limit.result u.result u.ensures.0 u.ensures.1 z.few_shapes (items-long (goal.at.loop-c-init c).Start) (list-fits a.list a.candidates r.fitting)
     (u.auto.first ∙ z.first_long) z.few_passes c.most-limit.ensures
 
 pub restart-c-requires : goal.restart-c-requires
@@ -105,18 +105,18 @@ loop-t-init c =
     let l = c.loop-c in
     let r = c.restart-c in
     let first = r.new.first in
-    let aids = aids_of l.second l.sums l.runs l.paints in
+    let aids = aids_of l.second l.sums l.strokes.runs l.strokes.paints in
     subst (λ (m : Course). During (scene_at (goal.at.loop-t-init c).Start) (size_at (goal.at.loop-t-init c).Start) (served_at (goal.at.loop-t-init c).Start) a.list.count (progress_of m) 0 m first aids) (sym r.ensures.0)
     (during_start (scene_at (goal.at.loop-t-init c).Start) (size_at (goal.at.loop-t-init c).Start) (served_at (goal.at.loop-t-init c).Start) a.list.count (refined (scene_at (goal.at.loop-t-init c).Start) a.passes (listed c.start-c.result.list)) l.limit l.c l.first aids l.invariant c.loop-c-test.true first r.ensures.1
     (r.auto.first ∙ l.invariant.kept.first_long)
     (subst (λ (p : List Float). T (all_within p)) (sym r.ensures.1) (filled_within a.w a.h a.red a.green a.blue (ranges (goal.at.loop-t-init c).In_default).background)))
 
 abbrev aidsAt : At-loop-t → Aids
-aidsAt c = aids_of c.loop-t.second c.loop-t.sums c.loop-t.runs c.loop-t.paints
+aidsAt c = aids_of c.loop-t.second c.loop-t.sums c.loop-t.strokes.runs c.loop-t.strokes.paints
 
 -- those of the pass before
 abbrev aidsBefore : At-loop-t → Aids
-aidsBefore c = aids_of c.loop-c.second c.loop-c.sums c.loop-c.runs c.loop-c.paints
+aidsBefore c = aids_of c.loop-c.second c.loop-c.sums c.loop-c.strokes.runs c.loop-c.strokes.paints
 
 -- the pass that is being made began with the course after the passes before it
 abbrev FromAt : At-loop-t → Progress Shape → Type 0
@@ -149,7 +149,7 @@ loop-t-preserved c =
     let l = c.loop-t in
     let k = c.step-c in
     let first = k.new.first in
-    let aids = aids_of k.new.second k.new.sums k.new.runs k.new.paints in
+    let aids = aids_of k.new.second k.new.sums k.new.strokes.runs k.new.strokes.paints in
     during_next (scene_at s) (size_at s) (served_at s) a.list.count (progress_of c.restart-c.result) l.t l.c k.result l.first (aidsAt (goal.at.loop-t-preserved c).At-loop-t) first aids l.invariant c.loop-t-test.true
     (k.ensures (filled a.w a.h a.red a.green a.blue) (λ j. get_or (offered a.candidates) j None) (sym c.offer-what.ensures) l.invariant.held)
 
@@ -178,7 +178,7 @@ finish-requires c =
     let l = c.loop-c in
     let a = c.args in
     let r = ranges (goal.at.finish-requires c).In_default in
-    (table_of a.w a.h a.list.count (listed l.c.list) l.runs l.paints l.invariant.kept.served.traced (many (goal.at.finish-requires c).At-loop-c), r.background, l.invariant.kept.first_long, l.invariant.kept.served.second_long)
+    (table_of a.w a.h a.list.count (listed l.c.list) l.strokes.runs l.strokes.paints l.invariant.kept.served.traced (many (goal.at.finish-requires c).At-loop-c), r.background, l.invariant.kept.first_long, l.invariant.kept.served.second_long)
 
 pub shape_of-first : goal.shape_of-first
 shape_of-first c = c.finish.auto.first ∙ c.loop-c.invariant.kept.first_long ∙ sym (sizes (goal.at.shape_of-first c).In_default).first_long
@@ -200,6 +200,6 @@ returns c =
     (sym c.in_default.ensures)
     c.answer.result l.c.list l.c.place f.new.first f.new.second (ap (λ (r : Refined). r.refusal) k) (ap (λ (r : Refined). r.shapes) k) (sym (listed-length l.c.list l.invariant.kept.few l.invariant.kept.long))
     (ap (λ (r : Refined). record { list = listed l.c.list; place = l.c.place; passes = r.passes; trials = r.trials; acceptances = r.acceptances }) k
-    ∙ between_end (scene_at (goal.at.returns c).Start) (size_at (goal.at.returns c).Start) (served_at (goal.at.returns c).Start) a.list.count (refined (scene_at (goal.at.returns c).Start) a.passes (listed start.result.list)) l.limit l.c l.first (aids_of l.second l.sums l.runs l.paints) l.invariant c.loop-c-test.false
+    ∙ between_end (scene_at (goal.at.returns c).Start) (size_at (goal.at.returns c).Start) (served_at (goal.at.returns c).Start) a.list.count (refined (scene_at (goal.at.returns c).Start) a.passes (listed start.result.list)) l.limit l.c l.first (aids_of l.second l.sums l.strokes.runs l.strokes.paints) l.invariant c.loop-c-test.false
     ∙ ap (λ (x : Course). refined (scene_at (goal.at.returns c).Start) a.passes (listed x.list)) start.ensures.0)
     (drawn-list.0 ∙ ap (painted_on (shape_painted a.w a.h) background) whole) (drawn-list.1 ∙ ap (painted_on (shape_painted a.w a.h) background) whole)

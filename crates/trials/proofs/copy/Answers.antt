@@ -1,30 +1,29 @@
-use mathlib.Core.Path.{◌≡◌, ap, ◌∙◌}
-use mathlib.Core.List.{List}
-use Prim.Native.Nat.{ℕ, ◌+◌, ◌-◌}
-use lib.Ieee.{Float, nan}
-use lib.ListN.{length, get_or, take, drop, length-take, length-drop}
-use Rattle.std.proofs.Common.{get_or-take, get_or-drop}
-use Rattle.laws.specs.StrokeLaws.{put_low, put_mid_lem, put_high}
+use lib.Ieee.{nan}
+use Rattle.trials.specs.CopyLaws.{copied_none, copied_more}
 use native.Mathlib.Omega.{arith}
-use borrow.Rule.Slice.PartMut.{put_mid}
 use Rattle.trials.proofs.copy.Goals as goal
 
--- A part is replaced by what is lent.
+-- The numbers from `start` up to i are copied.
+
+pub loop-i-init : goal.loop-i-init
+loop-i-init c = copied_none nan c.args.from.now c.args.to.now c.args.start
+
+pub bounds-from-i : goal.bounds-from-i
+bounds-from-i c = omega (arith, c.loop-i-test.true, c.requires.0, c.requires.2)
+
+pub bounds-to-i : goal.bounds-to-i
+bounds-to-i c = omega (arith, c.loop-i-test.true, c.loop-i.invariant.long, c.requires.2)
+
+pub loop-i-preserved : goal.loop-i-preserved
+loop-i-preserved c =
+    let l = c.loop-i in
+    let a = c.args in
+    copied_more nan a.from.now a.to.now a.start l.i l.to l.auto.i (omega (arith, c.loop-i-test.true, c.requires.2)) l.invariant
+
+pub shape_of-to : goal.shape_of-to
+shape_of-to c = c.loop-i.invariant.long
 
 pub returns : goal.returns
 returns c =
-    let a = c.args in
-    let k = a.end - a.start in
-    let old = a.to.now in
-    let part = c.copy_from_slice.new.self in
-    let long : length part ≡ k = omega (arith, c.copy_from_slice.ensures.len, length-take k (drop a.start old), length-drop a.start old, c.requires.1, c.requires.2) in (
-      λ i low high.
-          ap (λ (n : ℕ). get_or (put_mid a.start k old part) n nan) {x = i} {y = a.start + (i - a.start)} (omega arith)
-          ∙ put_mid_lem a.start k (i - a.start) old part nan (omega (arith, c.requires.1, c.requires.2)) (omega (arith, long))
-          ∙ ap (λ (l : List Float). get_or l (i - a.start) nan) c.copy_from_slice.ensures.after
-          ∙ get_or-take k (drop a.start a.from.now) (i - a.start) nan (omega arith)
-          ∙ get_or-drop a.start a.from.now (i - a.start) nan
-          ∙ ap (λ (n : ℕ). get_or a.from.now n nan) {x = a.start + (i - a.start)} {y = i} (omega arith),
-      λ i low. put_low a.start k i old part nan (omega (arith, c.requires.1, c.requires.2)) low,
-      λ i high. put_high a.start k i old part nan (omega (arith, c.requires.1, c.requires.2)) long (omega (arith, c.requires.1)),
-    )
+    let l = c.loop-i in
+    (λ i a b. l.invariant.done i a (omega (arith, c.loop-i-test.false)), λ i a. l.invariant.before i a, λ i a. l.invariant.after i (omega arith))

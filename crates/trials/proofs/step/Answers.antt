@@ -63,7 +63,7 @@ abbrev served_at : Start → List Float → List Shape → Aids → Type 0
 served_at s b = Aided s.args.w s.args.h s.args.target.now b
 
 abbrev aidsAt : Start → Aids
-aidsAt s = aids_of s.args.second.now s.args.sums.now s.args.runs.now s.args.paints.now
+aidsAt s = aids_of s.args.second.now s.args.sums.now s.args.strokes.now.runs s.args.strokes.now.paints
 
 abbrev HeldAt : Start → List Float → (ℕ → Option Shape) → Type 0
 HeldAt s b f = Held (scene_at s b f) (size_at s) (served_at s b) s.args.c s.args.first.now (aidsAt s)
@@ -82,16 +82,16 @@ abbrev secondAt : After-try_candidate-new → List Float
 secondAt t = t.try_candidate-new.new.second
 
 abbrev runsAt : After-try_candidate-new → List ℕ
-runsAt t = t.try_candidate-new.new.runs
+runsAt t = t.try_candidate-new.new.strokes.runs
 
 abbrev paintsAt : After-try_candidate-new → List Float
-paintsAt t = t.try_candidate-new.new.paints
+paintsAt t = t.try_candidate-new.new.strokes.paints
 
 abbrev trialSums : After-try_candidate-new → List Float
 trialSums t = t.try_candidate-new.new.trial
 
 abbrev start_at : After-try_candidate-new → Start
-start_at t = t.before.before.before.before.before.before.before.before.before.before.before.before.before
+start_at t = t.before.before.before.before.before.before.before.before.before.before.before.before
 
 abbrev shape_at : After-try_candidate-new → Shape
 shape_at t = t.in-Some.x
@@ -161,7 +161,7 @@ returns-then-new-c c b f e d =
     let long-sums : length c.try_candidate-new.new.trial ≡ 257 = search rules in
     let table = c.drop_column in
     let x = c.exchange-list in
-    let aids = aids_of (secondAt (goal.at.returns-then-new-c c).After-try_candidate-new) sums table.new.runs table.new.paints in
+    let aids = aids_of (secondAt (goal.at.returns-then-new-c c).After-try_candidate-new) sums table.new.self.runs table.new.self.paints in
     let long = length-append (listAt (goal.at.returns-then-new-c c).After-try_candidate-new) (shape_at (goal.at.returns-then-new-c c).After-try_candidate-new ∷ []) ∙ ap (λ (n : ℕ). n + 1) (count-is (goal.at.returns-then-new-c c).After-try_candidate-new b f d) in
     let below : a.c.place < length (listAt (goal.at.returns-then-new-c c).After-try_candidate-new) = omega (arith, s.requires.place, count-is (goal.at.returns-then-new-c c).After-try_candidate-new b f d) in
     subst (λ (r : Course). Stepped (scene_at s b f) (size_at s) (served_at s b) a.c r (first_at (goal.at.returns-then-new-c c).After-try_candidate-new) aids) (sym c.accept.ensures)
@@ -174,8 +174,8 @@ returns-then-new-c c b f e d =
       inside = c.try_candidate-new.ensures.2;
       sums_long = long-sums;
       sums = subst (λ (p : List Float). SummedTo a.w a.h a.target.now p sums) (sym (drawn_exchanged (scene_at s b f) (listAt (goal.at.returns-then-new-c c).After-try_candidate-new) a.c.place (shape_at (goal.at.returns-then-new-c c).After-try_candidate-new)) ∙ ap (drawn (scene_at s b f)) (sym x.ensures.2)) (new-sums (goal.at.returns-then-new-c c).After-try_candidate-new b f d low);
-      traced = subst (λ (l : List Shape). Traced a.w a.h l table.new.runs table.new.paints) (without_front a.c.place (listAt (goal.at.returns-then-new-c c).After-try_candidate-new) (shape_at (goal.at.returns-then-new-c c).After-try_candidate-new) below ∙ sym x.ensures.2)
-          (traced_drop a.w a.h a.c.place a.c.list.count (allAt (goal.at.returns-then-new-c c).After-try_candidate-new) (runsAt (goal.at.returns-then-new-c c).After-try_candidate-new) table.new.runs (paintsAt (goal.at.returns-then-new-c c).After-try_candidate-new) table.new.paints c.try_candidate-new.ensures.3 long (omega (arith, s.requires.place)) table.ensures.2 table.ensures.3 table.ensures.0 table.ensures.1);
+      traced = subst (λ (l : List Shape). Traced a.w a.h l table.new.self.runs table.new.self.paints) (without_front a.c.place (listAt (goal.at.returns-then-new-c c).After-try_candidate-new) (shape_at (goal.at.returns-then-new-c c).After-try_candidate-new) below ∙ sym x.ensures.2)
+          (traced_drop a.w a.h a.c.place a.c.list.count (allAt (goal.at.returns-then-new-c c).After-try_candidate-new) (runsAt (goal.at.returns-then-new-c c).After-try_candidate-new) table.new.self.runs (paintsAt (goal.at.returns-then-new-c c).After-try_candidate-new) table.new.self.paints c.try_candidate-new.ensures.3 long (omega (arith, s.requires.place)) table.ensures.2 table.ensures.3 table.ensures.0 table.ensures.1);
     })
     low (chosen (goal.at.returns-then-new-c c).In-Some) s.requires.place x.ensures)
 

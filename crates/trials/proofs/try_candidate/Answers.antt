@@ -27,10 +27,10 @@ all_long s = length-append (listed s.args.list) (s.args.x ∷ []) ∙ ap (λ (n 
 
 -- the candidate stands after the list
 stands : (s : Start) (runs : List ℕ) (paints : List Float) → length runs ≡ 33280 → length paints ≡ 260 → Column s.args.w s.args.h s.args.x runs paints s.args.list.count
-    → ((k : ℕ) → k < 65 → (k ≡ s.args.list.count → ⊥) → SameColumn s.args.runs.now runs k × (brush_at paints k ≡ brush_at s.args.paints.now k)) → Traced s.args.w s.args.h (listed s.args.list ++ (s.args.x ∷ [])) runs paints
+    → ((k : ℕ) → k < 65 → (k ≡ s.args.list.count → ⊥) → SameColumn s.args.strokes.now.runs runs k × (brush_at paints k ≡ brush_at s.args.strokes.now.paints k)) → Traced s.args.w s.args.h (listed s.args.list ++ (s.args.x ∷ [])) runs paints
 stands s runs paints long paints_long c others =
     let a = s.args in
-    traced_push a.w a.h (listed a.list) a.x a.runs.now runs a.paints.now paints s.requires.drawable.4 (omega (arith, count-is s, s.requires.drawable.0.few))
+    traced_push a.w a.h (listed a.list) a.x a.strokes.now.runs runs a.strokes.now.paints paints s.requires.drawable.4 (omega (arith, count-is s, s.requires.drawable.0.few))
     (subst (λ (n : ℕ). Column a.w a.h a.x runs paints n) (sym (count-is s)) c) (λ k l o. others k l (λ e. o (e ∙ sym (count-is s)))) long paints_long
 
 pub offset_bounds-list-j : goal.offset_bounds-list-j
@@ -48,13 +48,13 @@ trace-requires c = (c.requires.drawable.0.sized, c.requires.drawable.3, omega (a
 pub paint_all-requires : goal.paint_all-requires
 paint_all-requires c =
     let t = c.trace in
-    (table_of c.args.w c.args.h c.args.j (listed c.args.list ++ (c.args.x ∷ [])) t.new.runs t.new.paints (stands (goal.at.paint_all-requires c).Start t.new.runs t.new.paints t.ensures.0 t.ensures.1 t.ensures.2 t.ensures.3) (omega (arith, all_long (goal.at.paint_all-requires c).Start, c.requires.drawable.2)), c.requires.drawable.1, c.requires.targeted.1, c.requires.targeted.3)
+    (table_of c.args.w c.args.h c.args.j (listed c.args.list ++ (c.args.x ∷ [])) t.new.self.runs t.new.self.paints (stands (goal.at.paint_all-requires c).Start t.new.self.runs t.new.self.paints t.ensures.0 t.ensures.1 t.ensures.2 t.ensures.3) (omega (arith, all_long (goal.at.paint_all-requires c).Start, c.requires.drawable.2)), c.requires.drawable.1, c.requires.targeted.1, c.requires.targeted.3)
 
 pub try_rows-requires : goal.try_rows-requires
 try_rows-requires c =
     let t = c.trace in
     let p = c.paint_all in
-    let o = c.spanned-rows.ensures in record { tabled = (table_of c.args.w c.args.h (c.args.list.count + 1) (listed c.args.list ++ (c.args.x ∷ [])) t.new.runs t.new.paints (stands (goal.at.try_rows-requires c).Start t.new.runs t.new.paints t.ensures.0 t.ensures.1 t.ensures.2 t.ensures.3) (omega (arith, all_long (goal.at.try_rows-requires c).Start)), omega (arith, c.requires.drawable.2), o.ordered, o.inside, c.requires.drawable.5, c.requires.drawable.6); targeted = (c.requires.targeted.0, p.auto.canvas ∙ c.requires.targeted.1, c.requires.targeted.2, p.ensures.0, c.requires.targeted.4) }
+    let o = c.spanned-rows.ensures in record { tabled = (table_of c.args.w c.args.h (c.args.list.count + 1) (listed c.args.list ++ (c.args.x ∷ [])) t.new.self.runs t.new.self.paints (stands (goal.at.try_rows-requires c).Start t.new.self.runs t.new.self.paints t.ensures.0 t.ensures.1 t.ensures.2 t.ensures.3) (omega (arith, all_long (goal.at.try_rows-requires c).Start)), omega (arith, c.requires.drawable.2), o.ordered, o.inside, c.requires.drawable.5, c.requires.drawable.6); targeted = (c.requires.targeted.0, p.auto.canvas ∙ c.requires.targeted.1, c.requires.targeted.2, p.ensures.0, c.requires.targeted.4) }
 
 pub returns : goal.returns
 returns c =
@@ -62,7 +62,7 @@ returns c =
     let t = c.trace in
     let p = c.paint_all in
     let r = c.try_rows in
-    let all = stands (goal.at.returns c).Start t.new.runs t.new.paints t.ensures.0 t.ensures.1 t.ensures.2 t.ensures.3 in (
+    let all = stands (goal.at.returns c).Start t.new.self.runs t.new.self.paints t.ensures.0 t.ensures.1 t.ensures.2 t.ensures.3 in (
       p.ensures.1 (listed c.args.list ++ (c.args.x ∷ [])) all (omega (arith, all_long (goal.at.returns c).Start, c.requires.drawable.2)),
       p.ensures.0,
       r.ensures.0,

@@ -17,5 +17,5 @@ use Rattle.trials.proofs.try_rows.Given as goal
 abbrev pub invariant-loop-y : goal.invariant-loop-y
 invariant-loop-y l =
     (length l.second ≡ length l.initial.second) × T (all_within l.second) × (length l.trial ≡ 257)
-    × ((m : List Shape) (q : List Float) → Traced l.w l.h m l.runs l.paints → l.to ≤ length m → Apart l.w l.h l.top l.bottom q (painted_on (shape_painted l.w l.h) l.first (slice l.from l.to m)) → SummedTo l.w l.h l.target q l.sums
+    × ((m : List Shape) (q : List Float) → Traced l.w l.h m l.strokes.runs l.strokes.paints → l.to ≤ length m → Apart l.w l.h l.top l.bottom q (painted_on (shape_painted l.w l.h) l.first (slice l.from l.to m)) → SummedTo l.w l.h l.target q l.sums
     → (l.sum ≡ total_on l.target (painted_on (shape_painted l.w l.h) l.first (slice l.from l.to m)) nought 0 (l.y * l.w * 3)) × SummedTo l.w l.y l.target (painted_on (shape_painted l.w l.h) l.first (slice l.from l.to m)) l.trial)

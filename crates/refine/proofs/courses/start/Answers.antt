@@ -35,7 +35,7 @@ fill-requires c = c.requires.drawable.4
 pub draw-requires : goal.draw-requires
 draw-requires c =
     let t = c.trace_list in
-    (table_of c.args.w c.args.h c.args.list.count (listed c.args.list) t.new.runs t.new.paints t.ensures (many (goal.at.draw-requires c).Start), c.requires.drawable.1, c.requires.drawable.3)
+    (table_of c.args.w c.args.h c.args.list.count (listed c.args.list) t.new.self.runs t.new.self.paints t.ensures (many (goal.at.draw-requires c).Start), c.requires.drawable.1, c.requires.drawable.3)
 
 pub sum_rows-requires : goal.sum_rows-requires
 sum_rows-requires c = let d = c.draw in (c.requires.drawable.0.sized, c.requires.drawable.2, d.auto.canvas ∙ c.requires.drawable.3, d.ensures.0, c.requires.sums_len.0)

@@ -12,8 +12,8 @@ use Rattle.shapes.specs.Blank.{blank}
 use Rattle.traces.specs.Traces.{left_at, right_at, brush_at, Column, RowPainted}
 use Rattle.traces.specs.TraceLaws.{stroke_painted, none_painted, row_within}
 use native.Mathlib.Omega.{arith}
-use Rattle.traces.proofs.paint_one.Goals as goal
-use Rattle.traces.proofs.paint_one.Goals.{Start}
+use Rattle.traces.proofs.Strokes.paint_one.Goals as goal
+use Rattle.traces.proofs.Strokes.paint_one.Goals.{Start}
 
 -- A column of the table has a run within its row: it is brushed, or empty.
 
@@ -21,7 +21,7 @@ module _ (s : Start) where
   abbrev shape : Shape
   shape = get_or s.requires.0.shapes s.args.i blank
 
-  column : Column s.args.w s.args.h shape s.args.runs.now s.args.paints.now s.args.i
+  column : Column s.args.w s.args.h shape s.args.self.now.runs s.args.self.now.paints s.args.i
   column = s.requires.0.traced.column s.args.i (omega (arith, s.requires.0.many))
 
   few : s.args.i < 65
@@ -30,16 +30,16 @@ module _ (s : Start) where
   low : s.args.y < 256
   low = omega (arith, s.requires.1, s.requires.0.traced.sized.h_high)
 
-  bounds : (left_at s.args.runs.now s.args.i s.args.y ≤ right_at s.args.runs.now s.args.i s.args.y) × (right_at s.args.runs.now s.args.i s.args.y ≤ s.args.w)
+  bounds : (left_at s.args.self.now.runs s.args.i s.args.y ≤ right_at s.args.self.now.runs s.args.i s.args.y) × (right_at s.args.self.now.runs s.args.i s.args.y ≤ s.args.w)
   bounds =
       let b = runs-within shape.kind s.args.w s.args.h s.requires.0.traced.sized s.args.y s.requires.1 in
       (omega (arith, b.0, column.left s.args.y s.requires.1, column.right s.args.y s.requires.1), omega (arith, b.1, column.right s.args.y s.requires.1))
 
-  painted : (new : List Float) → new ≡ brushed_part (brush_at s.args.paints.now s.args.i) ((s.args.y * s.args.w + left_at s.args.runs.now s.args.i s.args.y) * 3) ((s.args.y * s.args.w + right_at s.args.runs.now s.args.i s.args.y) * 3) s.args.canvas.now
-      → (x : Shape) → Column s.args.w s.args.h x s.args.runs.now s.args.paints.now s.args.i → RowPainted s.args.w s.args.h s.args.y (x ∷ []) s.args.canvas.now new
+  painted : (new : List Float) → new ≡ brushed_part (brush_at s.args.self.now.paints s.args.i) ((s.args.y * s.args.w + left_at s.args.self.now.runs s.args.i s.args.y) * 3) ((s.args.y * s.args.w + right_at s.args.self.now.runs s.args.i s.args.y) * 3) s.args.canvas.now
+      → (x : Shape) → Column s.args.w s.args.h x s.args.self.now.runs s.args.self.now.paints s.args.i → RowPainted s.args.w s.args.h s.args.y (x ∷ []) s.args.canvas.now new
   painted new e x k =
       let a = s.args in
-      stroke_painted a.w a.h a.y s.requires.0.traced.sized s.requires.1 x a.canvas.now s.requires.2 (brush_at a.paints.now a.i) (left_at a.runs.now a.i a.y) (right_at a.runs.now a.i a.y) new k.brush (k.left a.y s.requires.1) (k.right a.y s.requires.1) e
+      stroke_painted a.w a.h a.y s.requires.0.traced.sized s.requires.1 x a.canvas.now s.requires.2 (brush_at a.self.now.paints a.i) (left_at a.self.now.runs a.i a.y) (right_at a.self.now.runs a.i a.y) new k.brush (k.left a.y s.requires.1) (k.right a.y s.requires.1) e
 
 pub overflow_mul-left : goal.overflow_mul-left
 overflow_mul-left c = omega (arith, low (goal.at.overflow_mul-left c).Start)
@@ -50,11 +50,11 @@ overflow_mul-left-2 c = omega (arith, few (goal.at.overflow_mul-left-2 c).Start)
 pub overflow_add-left : goal.overflow_add-left
 overflow_add-left c = omega (arith, low (goal.at.overflow_add-left c).Start, few (goal.at.overflow_add-left c).Start)
 
-pub offset_bounds-runs-y : goal.offset_bounds-runs-y
-offset_bounds-runs-y c = omega (arith, low (goal.at.offset_bounds-runs-y c).Start, few (goal.at.offset_bounds-runs-y c).Start)
+pub offset_bounds-self-y : goal.offset_bounds-self-y
+offset_bounds-self-y c = omega (arith, low (goal.at.offset_bounds-self-y c).Start, few (goal.at.offset_bounds-self-y c).Start)
 
-pub bounds-runs-y : goal.bounds-runs-y
-bounds-runs-y c = omega (arith, low (goal.at.bounds-runs-y c).Start, few (goal.at.bounds-runs-y c).Start)
+pub bounds-self-y : goal.bounds-self-y
+bounds-self-y c = omega (arith, low (goal.at.bounds-self-y c).Start, few (goal.at.bounds-self-y c).Start)
 
 pub overflow_cast-left : goal.overflow_cast-left
 overflow_cast-left c = omega (arith, (bounds (goal.at.overflow_cast-left c).Start).0, (bounds (goal.at.overflow_cast-left c).Start).1, c.requires.0.traced.sized.w_high)
@@ -71,11 +71,11 @@ overflow_add-right c = omega (arith, low (goal.at.overflow_add-right c).Start, f
 pub overflow_add-right-2 : goal.overflow_add-right-2
 overflow_add-right-2 c = omega (arith, low (goal.at.overflow_add-right-2 c).Start, few (goal.at.overflow_add-right-2 c).Start)
 
-pub offset_bounds-runs-y-2 : goal.offset_bounds-runs-y-2
-offset_bounds-runs-y-2 c = omega (arith, low (goal.at.offset_bounds-runs-y-2 c).Start, few (goal.at.offset_bounds-runs-y-2 c).Start)
+pub offset_bounds-self-y-2 : goal.offset_bounds-self-y-2
+offset_bounds-self-y-2 c = omega (arith, low (goal.at.offset_bounds-self-y-2 c).Start, few (goal.at.offset_bounds-self-y-2 c).Start)
 
-pub bounds-runs-y-2 : goal.bounds-runs-y-2
-bounds-runs-y-2 c = omega (arith, low (goal.at.bounds-runs-y-2 c).Start, few (goal.at.bounds-runs-y-2 c).Start)
+pub bounds-self-y-2 : goal.bounds-self-y-2
+bounds-self-y-2 c = omega (arith, low (goal.at.bounds-self-y-2 c).Start, few (goal.at.bounds-self-y-2 c).Start)
 
 pub overflow_cast-right : goal.overflow_cast-right
 overflow_cast-right c = omega (arith, (bounds (goal.at.overflow_cast-right c).Start).1, c.requires.0.traced.sized.w_high)

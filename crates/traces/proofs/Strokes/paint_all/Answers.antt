@@ -6,7 +6,7 @@ use Rattle.traces.specs.Scenes.{shape_painted}
 use Rattle.traces.specs.DrawingLaws.{same_whole, painted_on-length}
 use Rattle.traces.specs.TraceLaws.{RowsPainted, rows_painted_none, rows_painted_more}
 use native.Mathlib.Omega.{arith}
-use Rattle.traces.proofs.paint_all.Goals as goal
+use Rattle.traces.proofs.Strokes.paint_all.Goals as goal
 
 -- The rows passed are painted.
 

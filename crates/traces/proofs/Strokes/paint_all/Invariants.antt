@@ -8,8 +8,8 @@ use Rattle.float.specs.Within.{all_within}
 use Rattle.shapes.specs.declared.Shape.{Shape}
 use Rattle.traces.specs.Traces.{Traced}
 use Rattle.traces.specs.TraceLaws.{RowsPainted}
-use Rattle.traces.proofs.paint_all.Given as goal
+use Rattle.traces.proofs.Strokes.paint_all.Given as goal
 
 abbrev pub invariant-loop-y : goal.invariant-loop-y
 invariant-loop-y l =
-    (length l.canvas ≡ length l.initial.canvas) × T (all_within l.canvas) × ((m : List Shape) → Traced l.w l.h m l.runs l.paints → l.to ≤ length m → RowsPainted l.w l.h l.y (slice l.from l.to m) l.initial.canvas l.canvas)
+    (length l.canvas ≡ length l.initial.canvas) × T (all_within l.canvas) × ((m : List Shape) → Traced l.w l.h m l.self.runs l.self.paints → l.to ≤ length m → RowsPainted l.w l.h l.y (slice l.from l.to m) l.initial.canvas l.canvas)

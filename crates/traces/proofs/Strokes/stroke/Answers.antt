@@ -1,7 +1,7 @@
 use mathlib.Core.Path.{ap}
 use Prim.Native.Nat.{◌+◌, ◌-◌, ◌*◌}
 use borrow.Rule.Slice.PartMut.{put_mid}
-use Rattle.traces.proofs.stroke.Goals as goal
+use Rattle.traces.proofs.Strokes.stroke.Goals as goal
 
 -- The part is lent, and comes back brushed.
 

@@ -5,7 +5,7 @@ use lib.Seq.{slice}
 use Rattle.traces.specs.Traces.{RowPainted}
 use Rattle.traces.specs.TraceLaws.{row_none, row_more}
 use native.Mathlib.Omega.{arith}
-use Rattle.traces.proofs.paint_row.Goals as goal
+use Rattle.traces.proofs.Strokes.paint_row.Goals as goal
 
 -- The loop carries the part painted so far.
 

@@ -8,8 +8,8 @@ use Rattle.laws.specs.Blank.{blank}
 use Rattle.laws.specs.Bools.{true_is}
 use Rattle.laws.specs.Strokes.{run_left, run_right}
 use Rattle.traces.specs.DrawingLaws.{well_placed}
-use Rattle.traces.proofs.trace.Goals as goal
-use Rattle.traces.proofs.trace.Goals.{Start}
+use Rattle.traces.proofs.Strokes.trace.Goals as goal
+use Rattle.traces.proofs.Strokes.trace.Goals.{Start}
 
 -- What the runs, the column and the brush ensure.
 
@@ -25,7 +25,7 @@ put_brush-requires c = (c.requires.2, c.requires.4)
 
 -- the opacity is a number of its format
 single : (s : Start) → T (ieee.fits binary32 s.args.s.opacity)
-single s = true_is _ s.well_formed.1.1.0.1.1.1.0.1
+single s = true_is _ s.well_formed.1.1.1.0.1.1.1.0.1
 
 pub returns : goal.returns
 returns c =
