@@ -24,13 +24,10 @@ enum Operation {
     Div64,
 }
 
-// A line as far as it is read: the last three words before the one that is being read, and the counts so far.
-#[derive(Clone, Copy, Default)]
+// A line as far as it is read: the last three words before the one that is being read, that one, and the counts so far.
+#[derive(Clone, Copy)]
 struct Reading {
-    a: u64,
-    b: u64,
-    c: u64,
-    word: u64,
+    words: [u64; 4],
     lines: u64,
     differences: u64,
 }
@@ -58,96 +55,93 @@ fn narrows(b: u64, c: u64) -> bool {
     bits & value
 }
 
-// A line's words: the operation's operands a and b and its result c, or, of a conversion, the operand b and its result c.
-fn agrees(op: Operation, a: u64, b: u64, c: u64) -> bool {
-    match op {
-        Operation::Narrow => narrows(b, c),
-        Operation::Widen => same64(float::widen(of32(b)), c),
-        Operation::Add32 => same32(of32(a) + of32(b), c),
-        Operation::Sub32 => same32(of32(a) - of32(b), c),
-        Operation::Mul32 => same32(of32(a) * of32(b), c),
-        Operation::Add64 => same64(of64(a) + of64(b), c),
-        Operation::Sub64 => same64(of64(a) - of64(b), c),
-        Operation::Mul64 => same64(of64(a) * of64(b), c),
-        Operation::Div64 => same64(of64(a) / of64(b), c),
-    }
-}
-
-// At the end of a line, which has the flags for its last word.
-fn ended(r: Reading, op: Operation) -> Reading {
-    let wrong = !agrees(op, r.a, r.b, r.c) as u64;
+// At the end of a line, which has the flags for its last word. Its words are the operation's operands a and b and its result c, or, of a
+// conversion, the operand b and its result c.
+fn ended<F: Fn(u64, u64, u64) -> bool>(r: Reading, agrees: &F) -> Reading
+    requires { F.IsAlwaysCallable agrees.now }
+{
+    let [a, b, c, _] = r.words;
+    let wrong = if agrees(a, b, c) { 0 } else { 1 };
     Reading {
+        words: [0; 4],
         lines: r.lines.wrapping_add(1),
         differences: r.differences.wrapping_add(wrong),
-        ..Reading::default()
     }
 }
 
 // The value of a capital hexadecimal digit.
-fn digit(byte: u8) -> Option<u64>
-    ensures { IfSome result (λ d. d < 16) }
-{
+fn digit(byte: u8) -> Option<u64> {
     match byte {
-        b'0'..=b'9' => Some((byte - b'0') as u64),
-        b'A'..=b'F' => Some((byte - b'A' + 10) as u64),
+        b'0'..=b'9' => Some(u64::from(byte - b'0')),
+        b'A'..=b'F' => Some(u64::from(byte - b'A' + 10)),
         _ => None,
     }
 }
 
-fn read(r: Reading, op: Operation, byte: u8) -> Reading {
-    match byte {
-        b'\n' => ended(r, op),
-        b' ' => Reading {
-            a: r.b,
-            b: r.c,
-            c: r.word,
-            word: 0,
+fn read<F: Fn(u64, u64, u64) -> bool>(r: Reading, agrees: &F, byte: u8) -> Reading
+    requires { F.IsAlwaysCallable agrees.now }
+{
+    let [a, b, c, word] = r.words;
+    if byte == b'\n' {
+        return ended(r, agrees);
+    }
+    if byte == b' ' {
+        return Reading {
+            words: [b, c, word, 0],
+            ..r
+        };
+    }
+    match digit(byte) {
+        Some(d) => Reading {
+            words: [a, b, c, word.wrapping_mul(16).wrapping_add(d)],
             ..r
         },
-        _ => match digit(byte) {
-            Some(d) => Reading {
-                word: (r.word % 0x1000_0000_0000_0000) * 16 + d,
-                ..r
-            },
-            // a byte that no vector has counts as a difference
-            None => Reading {
-                differences: r.differences.wrapping_add(1),
-                ..r
-            },
+        // a byte that no vector has counts as a difference
+        None => Reading {
+            differences: r.differences.wrapping_add(1),
+            ..r
         },
     }
 }
 
-fn compare(before: Reading, text: &[u8], op: Operation) -> Reading {
-    let mut r = before;
-    for &byte in text {
-        r = read(r, op, byte);
-    }
-    r
-}
-
-fn run(rt: &(impl Files + Print), name: &str, op: Operation) -> io::Result<()> {
+fn run<F: Fn(u64, u64, u64) -> bool>(
+    rt: &(impl Files + Print),
+    name: &str,
+    agrees: &F,
+) -> io::Result<()>
+    requires { F.IsAlwaysCallable agrees.now }
+{
     let mut file = File::open(rt, name)?;
-    let mut r = Reading::default();
+    let mut r = Reading {
+        words: [0; 4],
+        lines: 0,
+        differences: 0,
+    };
     let mut buf = [0u8; 65536];
     for _ in 0..u64::MAX {
         let n = file.read(&mut buf)?;
         if n == 0 {
             break;
         }
-        r = compare(r, &buf[..n], op);
+        for byte in &buf[..n] {
+            r = read(r, agrees, *byte);
+        }
     }
     println!(rt; "{name}: {} lines, {} differences", r.lines, r.differences)
 }
 
 fn main(rt: HostRuntime) -> io::Result<()> {
-    run(&rt, "f64_to_f32.txt", Operation::Narrow)?;
-    run(&rt, "f32_to_f64.txt", Operation::Widen)?;
-    run(&rt, "f32_add.txt", Operation::Add32)?;
-    run(&rt, "f32_sub.txt", Operation::Sub32)?;
-    run(&rt, "f32_mul.txt", Operation::Mul32)?;
-    run(&rt, "f64_add.txt", Operation::Add64)?;
-    run(&rt, "f64_sub.txt", Operation::Sub64)?;
-    run(&rt, "f64_mul.txt", Operation::Mul64)?;
-    run(&rt, "f64_div.txt", Operation::Div64)
+    run(&rt, "f64_to_f32.txt", &|_, b, c| narrows(b, c))?;
+    run(
+        &rt,
+        "f32_to_f64.txt",
+        &|_, b, c| same64(float::widen(of32(b)), c),
+    )?;
+    run(&rt, "f32_add.txt", &|a, b, c| same32(of32(a) + of32(b), c))?;
+    run(&rt, "f32_sub.txt", &|a, b, c| same32(of32(a) - of32(b), c))?;
+    run(&rt, "f32_mul.txt", &|a, b, c| same32(of32(a) * of32(b), c))?;
+    run(&rt, "f64_add.txt", &|a, b, c| same64(of64(a) + of64(b), c))?;
+    run(&rt, "f64_sub.txt", &|a, b, c| same64(of64(a) - of64(b), c))?;
+    run(&rt, "f64_mul.txt", &|a, b, c| same64(of64(a) * of64(b), c))?;
+    run(&rt, "f64_div.txt", &|a, b, c| same64(of64(a) / of64(b), c))
 }
