@@ -11,9 +11,9 @@ pub struct Sums {
     pub blue: f64,
 }
 
-// The sums of the n pixels, or none where a number is not within 0..1. 16 at a time: the next ones' tests are done while the additions, which may not be reordered, wait for each other. The
-// compiler knows how many a part has, so that it adds red and green as a pair; of any number it would gather a channel's numbers from
-// four pixels, which costs more than it saves.
+// The sums of the n pixels, or none where a number is not within 0..1. 16 at a time: the next ones' tests are done while the
+// additions, which may not be reordered, wait for each other. The compiler knows how many a part has, so that it adds red and green as
+// a pair; of any number it would gather a channel's numbers from four pixels, which costs more than it saves.
 pub fn sums_within(target: &[f32], n: usize) -> Option<Sums>
     requires { length target.now ≡ n * 3 }
     ensures { SumsWithinSays target.now n result }
@@ -23,19 +23,19 @@ pub fn sums_within(target: &[f32], n: usize) -> Option<Sums>
         green: 0.0,
         blue: 0.0,
     };
-    let mut i = 0;
-    while 16 <= n - i {
+    let parts = n / 16;
+    for part in 0..parts {
+        let i = part * 16;
         if !crate::parts::part_within(target, i * 3, (i + 16) * 3) {
             return None;
         }
         sums = add_pixels(sums, target, i, i + 16);
-        i += 16;
     }
+    let i = parts * 16;
     if !crate::parts::part_within(target, i * 3, n * 3) {
         return None;
     }
-    sums = add_pixels(sums, target, i, n);
-    Some(sums)
+    Some(add_pixels(sums, target, i, n))
 }
 
 // The sums go on from those of the pixels before `from`.

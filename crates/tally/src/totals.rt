@@ -4,7 +4,9 @@ ghost use Rattle.laws.specs.F32.{◌⊟◌};
 ghost use Rattle.float.specs.Within.{within, all_within};
 ghost use Rattle.tally.specs.Tally.{SquaredAnySays, squared_difference, TotalWithinSays, total_to};
 
-// The total of two pictures, or none where a number of one is not within 0..1. 16 numbers at a time: the next ones' tests are done while the additions, which may not be reordered, wait for each other.
+// The total of two pictures, or none where a number of one is not within 0..1. 16 numbers at a time: the next ones' tests are done
+// while the additions, which may not be reordered, wait for each other.
+// Kept: tried, proved, slower: `for` over parts here and over eights below takes 6.1 ns a pixel; `while` 5.0 to 5.4.
 pub fn total_within(target: &[f32], canvas: &[f32]) -> Option<f64>
     requires { length target.now ≡ length canvas.now }
     ensures { TotalWithinSays target.now canvas.now result }

@@ -1,5 +1,5 @@
-use mathlib.Core.Path.{sym, ◌∙◌}
-use Prim.Native.Nat.{◌+◌, ◌*◌}
+use mathlib.Core.Path.{◌≡◌, refl, sym, ◌∙◌}
+use Prim.Native.Nat.{ℕ, ◌+◌, ◌*◌}
 use lib.Ieee.{of_bits}
 use lib.ListN.{take}
 use Rattle.laws.specs.Bools.{true_is}
@@ -11,32 +11,37 @@ use Rattle.tally.proofs.means.sums_within.Goals as goal
 
 -- The sums so far are those of the parts passed, and they were within 0..1.
 
-pub loop-i-init : goal.loop-i-init
+pub loop-part-init : goal.loop-part-init
 unfolding of_bits every
-loop-i-init c = (omega arith, sums_none c.args.target.now, tt)
+loop-part-init c = (omega arith, refl, λ k e. let z : k ≡ 0 = omega (arith, e) in rw z (sums_none c.args.target.now, tt))
 
 pub part_within-requires : goal.part_within-requires
-part_within-requires c = (omega arith, omega (arith, c.requires), c.loop-i.invariant.2)
+part_within-requires c = (omega arith, omega (arith, c.requires), (c.loop-part.invariant.2 (c.loop-part.part * 16) refl).1)
 
 pub returns-then-not-part_within : goal.returns-then-not-part_within
 returns-then-not-part_within c =
     let a = c.args in
     let part = c.part_within in
-    sums_beyond a.target.now a.n (first_bad a.target.now ((c.loop-i.i + 16) * 3) (sym part.ensures ∙ c.if-not-part_within.true))
+    sums_beyond a.target.now a.n (first_bad a.target.now ((c.loop-part.part * 16 + 16) * 3) (sym part.ensures ∙ c.if-not-part_within.true))
 
 pub add_pixels-sums-requires : goal.add_pixels-sums-requires
 add_pixels-sums-requires c =
-    let l = c.loop-i in
+    let l = c.loop-part in
     let good = sym c.part_within.ensures ∙ c.if-not-part_within.false in
-    record { from_le_to = (omega arith, omega (arith, c.requires), true_is (all_within (take ((l.i + 16) * 3) c.args.target.now)) good); before_value = l.invariant.1 }
+    record { from_le_to = (omega arith, omega (arith, c.requires), true_is (all_within (take ((l.part * 16 + 16) * 3) c.args.target.now)) good); before_value = (l.invariant.2 (l.part * 16) refl).0 }
 
-pub loop-i-preserved : goal.loop-i-preserved
-loop-i-preserved c =
-    let good = sym c.part_within.ensures ∙ c.if-not-part_within.false in
-    (omega arith, c.add_pixels-sums.ensures, true_is (all_within (take ((c.loop-i.i + 16) * 3) c.args.target.now)) good)
+pub loop-part-preserved : goal.loop-part-preserved
+loop-part-preserved c =
+    let l = c.loop-part in
+    let good = sym c.part_within.ensures ∙ c.if-not-part_within.false in (
+      omega arith,
+      refl,
+      λ k e. let z : k ≡ l.part * 16 + 16 = omega (arith, e) in rw z (c.add_pixels-sums.ensures, true_is (all_within (take ((l.part * 16 + 16) * 3) c.args.target.now)) good),
+    )
 
 pub part_within-requires-2 : goal.part_within-requires-2
-part_within-requires-2 c = (omega arith, omega (arith, c.requires), c.loop-i.invariant.2)
+part_within-requires-2 c =
+    (omega arith, omega (arith, c.requires), (c.loop-part.invariant.2 _ (omega arith)).1)
 
 pub returns-then-not-part_within-2 : goal.returns-then-not-part_within-2
 returns-then-not-part_within-2 c =
@@ -44,12 +49,11 @@ returns-then-not-part_within-2 c =
     let part = c.part_within-2 in
     sums_beyond a.target.now a.n (first_bad a.target.now (a.n * 3) (sym part.ensures ∙ c.if-not-part_within-2.true))
 
-pub add_pixels-sums-requires-2 : goal.add_pixels-sums-requires-2
-add_pixels-sums-requires-2 c =
+pub add_pixels-requires : goal.add_pixels-requires
+add_pixels-requires c =
     let a = c.args in
-    let l = c.loop-i in
     let good = sym c.part_within-2.ensures ∙ c.if-not-part_within-2.false in
-    record { from_le_to = (l.invariant.0, omega (arith, c.requires), true_is (all_within (take (a.n * 3) a.target.now)) good); before_value = l.invariant.1 }
+    record { from_le_to = (omega arith, omega (arith, c.requires), true_is (all_within (take (a.n * 3) a.target.now)) good); before_value = (c.loop-part.invariant.2 _ (omega arith)).0 }
 
 pub returns : goal.returns
 returns c =
@@ -57,4 +61,4 @@ returns c =
     let t = a.target.now in
     let part = c.part_within-2 in
     let good = sym part.ensures ∙ c.if-not-part_within-2.false in
-    sums-done t a.n _ c.add_pixels-sums-2.ensures (first-all t (a.n * 3) (omega (arith, c.requires)) (true_is (all_within (take (a.n * 3) t)) good))
+    sums-done t a.n _ c.add_pixels.ensures (first-all t (a.n * 3) (omega (arith, c.requires)) (true_is (all_within (take (a.n * 3) t)) good))
