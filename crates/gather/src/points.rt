@@ -256,7 +256,8 @@ fn push_row(
     push_tested(target, canvas, w, y, left, right, sums)
 }
 
-// The runs of rows top to bottom, from the top row down.
+// The runs of rows top to bottom, from the top row down. It is kept apart: it takes no shape, and what is around it is written out in the calls.
+#[inline(never)]
 fn push_rows(
     runs: &[u16; 512],
     top: usize,
@@ -356,7 +357,8 @@ pub fn push_stamp(
     s
 }
 
-// The sums of a shape over the rows of its reach, which are some.
+// The sums of a shape over the rows of its reach, which are some. Written out in the calls, so that no shape goes through memory.
+#[inline(always)]
 pub fn reached_sums(
     kind: Kind,
     top: usize,
@@ -377,8 +379,7 @@ pub fn reached_sums(
     unpaired(push_rows(&runs, top, bottom, target, canvas, w))
 }
 
-// The sums of a shape whose sizes and places were tested, over the rows of its reach. `push_rows` has two callers, so that the compiler keeps
-// it apart and inlines `reached_sums`, which then takes no shape through memory.
+// The sums of a shape whose sizes and places were tested.
 pub fn point_sums(kind: Kind, w: usize, h: usize, target: &[f32], canvas: &[f32]) -> ShapeSums
     requires sizes { Sized w h }
     requires places { bad_places kind ≡ false }
@@ -386,12 +387,8 @@ pub fn point_sums(kind: Kind, w: usize, h: usize, target: &[f32], canvas: &[f32]
     ensures { PointSumsSays kind w h target.now canvas.now result }
 {
     let rows = cover::reached::reach_rows(kind, w, h);
-    let top = rows.top;
-    let bottom = rows.bottom;
-    if bottom <= top {
+    if rows.bottom <= rows.top {
         return ShapeSums::new();
     }
-    let mut runs = [0u16; 512];
-    cover::runs(kind, w, h, &mut runs);
-    unpaired(push_rows(&runs, top, bottom, target, canvas, w))
+    reached_sums(kind, rows.top, rows.bottom, w, h, target, canvas)
 }

@@ -20,7 +20,8 @@ fn add_row(table: &[f64], w: usize, y: usize, left: usize, right: usize, s: Shap
     s
 }
 
-// The runs of rows top to bottom, from the top row down.
+// The runs of rows top to bottom, from the top row down. It is kept apart: it takes no shape, and what is around it is written out in the calls.
+#[inline(never)]
 fn add_rows(runs: &[u16; 512], top: usize, bottom: usize, table: &[f64], w: usize) -> ShapeSums
     requires sizes { (w ≤ 256) × (top ≤ bottom) × (bottom ≤ 256) × (bottom * ((w + 1) * 15) ≤ length table.now) }
     requires runs { RunsFit runs.now w top bottom }
@@ -74,7 +75,8 @@ pub fn add_stamp(bits: u64, left: usize, top: usize, table: &[f64], w: usize) ->
     s
 }
 
-// The sums of a shape over the rows of its reach, which are some.
+// The sums of a shape over the rows of its reach, which are some. Written out in the calls, so that no shape goes through memory.
+#[inline(always)]
 pub fn reached_sums(
     kind: Kind,
     top: usize,
@@ -94,8 +96,7 @@ pub fn reached_sums(
     add_rows(&runs, top, bottom, table, w)
 }
 
-// The sums of a shape whose sizes and places were tested, over the rows of its reach. `add_rows` has two callers, so that the compiler keeps
-// it apart and inlines `reached_sums`, which then takes no shape through memory.
+// The sums of a shape whose sizes and places were tested.
 pub fn span_sums(kind: Kind, w: usize, h: usize, table: &[f64]) -> ShapeSums
     requires sizes { Sized w h }
     requires places { bad_places kind ≡ false }
@@ -103,12 +104,8 @@ pub fn span_sums(kind: Kind, w: usize, h: usize, table: &[f64]) -> ShapeSums
     ensures { SpanSumsSays kind w h table.now result }
 {
     let rows = cover::reached::reach_rows(kind, w, h);
-    let top = rows.top;
-    let bottom = rows.bottom;
-    if bottom <= top {
+    if rows.bottom <= rows.top {
         return ShapeSums::new();
     }
-    let mut runs = [0u16; 512];
-    cover::runs(kind, w, h, &mut runs);
-    add_rows(&runs, top, bottom, table, w)
+    reached_sums(kind, rows.top, rows.bottom, w, h, table)
 }

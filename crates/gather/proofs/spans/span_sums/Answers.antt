@@ -5,34 +5,22 @@ use Rattle.laws.specs.Blank.{blank}
 use Rattle.gather.specs.RunSums.{Reached}
 use Rattle.gather.specs.RunSumLaws.{none_spans, some_reached, none_reached, reached_high, reached_rows, reached_fit, reached_spans}
 use Rattle.gather.proofs.spans.span_sums.Goals as goal
-use Rattle.gather.proofs.spans.span_sums.Goals.{Else-bottom-top}
+use Rattle.gather.proofs.spans.span_sums.Goals.{Else-rows}
 
 -- `gather::spans::span_sums` meets its contract: over the rows of the reach, or none.
 
-pub returns-then-bottom-top : goal.returns-then-bottom-top
-returns-then-bottom-top c =
+pub returns-then-rows : goal.returns-then-rows
+returns-then-rows c =
     let a = c.args in
     c.new.ensures
-    ∙ none_spans a.kind a.w a.h c.requires.sizes.h_high (none_reached a.kind a.w a.h c.reach_rows-rows.result c.reach_rows-rows.ensures c.if-bottom-top.true) a.table.now
+    ∙ none_spans a.kind a.w a.h c.requires.sizes.h_high (none_reached a.kind a.w a.h c.reach_rows-rows.result c.reach_rows-rows.ensures c.if-rows.true) a.table.now
 
-module _ (c : Else-bottom-top) where
+module _ (c : Else-rows) where
   reached : Reached c.args.kind c.args.w c.args.h c.reach_rows-rows.result.top c.reach_rows-rows.result.bottom
-  reached = let a = c.args in some_reached a.kind a.w a.h c.reach_rows-rows.result c.reach_rows-rows.ensures (omega (arith, c.if-bottom-top.false))
+  reached = let a = c.args in some_reached a.kind a.w a.h c.reach_rows-rows.result c.reach_rows-rows.ensures (omega (arith, c.if-rows.false))
 
-pub runs-requires : goal.runs-requires
-unfolding blank
-runs-requires c = record { sizes = c.requires.sizes; places = c.requires.places; blank = refl }
-
-pub add_rows-requires : goal.add_rows-requires
-add_rows-requires c =
-    let r = c.reach_rows-rows.result in
-    let a = c.args in
-    let k = reached_rows a.kind a.w a.h c.requires.sizes r.top r.bottom (reached (goal.at.add_rows-requires c).Else-bottom-top) in
-    let m = reached_high a.kind a.w a.h c.requires.sizes r.top r.bottom (reached (goal.at.add_rows-requires c).Else-bottom-top) ((a.w + 1) * 15) in
-    record { sizes = (k.0, k.1, k.2, omega (arith, m, c.requires.lent)); runs = reached_fit a.kind a.w a.h c.requires.sizes r.top r.bottom (reached (goal.at.add_rows-requires c).Else-bottom-top) _ c.runs.ensures }
+pub reached_sums-requires : goal.reached_sums-requires
+reached_sums-requires c = record { sizes = c.requires.sizes; places = c.requires.places; lent = c.requires.lent; rows = reached (goal.at.reached_sums-requires c).Else-rows }
 
 pub returns : goal.returns
-returns c =
-    let r = c.reach_rows-rows.result in
-    let a = c.args in
-    c.add_rows.ensures ∙ reached_spans a.kind a.w a.h c.requires.sizes r.top r.bottom (reached (goal.at.returns c).Else-bottom-top) _ c.runs.ensures a.table.now
+returns c = c.reached_sums.ensures
