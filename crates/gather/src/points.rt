@@ -111,172 +111,162 @@ fn numbers_in(xs: &[f32], a: usize, e: usize) -> bool
     float::all_numbers(&xs[a..e])
 }
 
-// The same of two pictures. A run of less than 32 pixels is not looked through: that would cost more than it saves.
-fn both_numbers(target: &[f32], canvas: &[f32], a: usize, e: usize) -> bool
-    requires { (a ≤ e) × (e ≤ length target.now) × (e ≤ length canvas.now) }
-    ensures { result ≡ true → NumbersIn target.now a e × NumbersIn canvas.now a e }
-{
-    if e - a < 96 {
-        return false;
-    }
-    if numbers_in(target, a, e) {
-        return numbers_in(canvas, a, e);
-    }
-    false
-}
-
-// The pixel whose channels begin at place `at`, of any bits.
-fn push_any(target: &[f32], canvas: &[f32], at: usize, s: Paired) -> Paired
-    requires { (at + 3 ≤ length target.now) × (at + 3 ≤ length canvas.now) × (s.count + 1 < 2 ^ 32) }
-    ensures { unpaired_of result ≡ plus (unpaired_of s) (pixel_from target.now canvas.now at) }
-{
-    push_pair(
-        s,
-        float::widen(target[at]),
-        float::widen(target[at + 1]),
-        float::widen(target[at + 2]),
-        float::widen(canvas[at]),
-        float::widen(canvas[at + 1]),
-        float::widen(canvas[at + 2]),
-    )
-}
-
-// The same where none is a NaN: widened without a test.
-fn push_numbers(target: &[f32], canvas: &[f32], at: usize, s: Paired) -> Paired
-    requires at_in_bounds { (at + 3 ≤ length target.now) × (at + 3 ≤ length canvas.now) × (s.count + 1 < 2 ^ 32) }
-    requires numbers_in { NumbersIn target.now at (at + 3) × NumbersIn canvas.now at (at + 3) }
-    ensures { unpaired_of result ≡ plus (unpaired_of s) (pixel_from target.now canvas.now at) }
-{
-    push_pair(
-        s,
-        float::widen_number(target[at]),
-        float::widen_number(target[at + 1]),
-        float::widen_number(target[at + 2]),
-        float::widen_number(canvas[at]),
-        float::widen_number(canvas[at + 1]),
-        float::widen_number(canvas[at + 2]),
-    )
-}
-
-// None of the pixel's channels is a NaN: a sum that is a number is of numbers alone. Two sums, which the compiler works out as a pair. Infinities
-// of both signs make it false too, and then each channel is looked at.
-fn numbers_at(target: &[f32], canvas: &[f32], at: usize) -> bool
-    requires { (at + 3 ≤ length target.now) × (at + 3 ≤ length canvas.now) }
-    ensures { result ≡ true → NumbersIn target.now at (at + 3) × NumbersIn canvas.now at (at + 3) }
-{
-    let first = target[at + 1] + canvas[at + 1] + target[at];
-    let second = target[at + 2] + canvas[at + 2] + canvas[at];
-    (first == first) & (second == second)
-}
-
-// Pixels left <= x < right of row y, none of which is a NaN.
-fn push_known(
-    target: &[f32],
-    canvas: &[f32],
+// The two pictures that are summed, of w pixels a row.
+#[derive(Clone, Copy)]
+struct Pair<'a> {
+    target: &'a [f32],
+    canvas: &'a [f32],
     w: usize,
-    y: usize,
-    left: usize,
-    right: usize,
-    sums: Paired,
-) -> Paired
-    requires sizes { (w ≤ 256) × (y < 256) × (left ≤ right) × (right ≤ w) × (sums.count + (right - left) < 2 ^ 31) }
-    requires lent { (y * w * 3 + w * 3 ≤ length target.now) × (y * w * 3 + w * 3 ≤ length canvas.now) }
-    requires numbers { NumbersIn target.now ((y * w + left) * 3) ((y * w + right) * 3) × NumbersIn canvas.now ((y * w + left) * 3) ((y * w + right) * 3) }
-    ensures { unpaired_of result ≡ pixels_added w target.now canvas.now y left (right - left) (unpaired_of sums) }
-{
-    let mut s = sums;
-    for x in left..right {
-        s = push_numbers(target, canvas, (y * w + x) * 3, s);
-    }
-    s
 }
 
-// The same of any bits.
-fn push_run_any(
-    target: &[f32],
-    canvas: &[f32],
-    w: usize,
-    y: usize,
-    left: usize,
-    right: usize,
-    sums: Paired,
-) -> Paired
-    requires sizes { (w ≤ 256) × (y < 256) × (left ≤ right) × (right ≤ w) × (sums.count + (right - left) < 2 ^ 31) }
-    requires lent { (y * w * 3 + w * 3 ≤ length target.now) × (y * w * 3 + w * 3 ≤ length canvas.now) }
-    ensures { unpaired_of result ≡ pixels_added w target.now canvas.now y left (right - left) (unpaired_of sums) }
-{
-    let mut s = sums;
-    for x in left..right {
-        s = push_any(target, canvas, (y * w + x) * 3, s);
-    }
-    s
-}
-
-// The same: each is looked at until there is a NaN, and from there on each channel.
-fn push_tested(
-    target: &[f32],
-    canvas: &[f32],
-    w: usize,
-    y: usize,
-    left: usize,
-    right: usize,
-    sums: Paired,
-) -> Paired
-    requires sizes { (w ≤ 256) × (y < 256) × (left ≤ right) × (right ≤ w) × (sums.count + (right - left) < 2 ^ 31) }
-    requires lent { (y * w * 3 + w * 3 ≤ length target.now) × (y * w * 3 + w * 3 ≤ length canvas.now) }
-    ensures { unpaired_of result ≡ pixels_added w target.now canvas.now y left (right - left) (unpaired_of sums) }
-{
-    let mut s = sums;
-    for x in left..right {
-        if !numbers_at(target, canvas, (y * w + x) * 3) {
-            return push_run_any(target, canvas, w, y, x, right, s);
+impl<'a> Pair<'a> {
+    // The same of two pictures. A run of less than 32 pixels is not looked through: that would cost more than it saves.
+    fn both_numbers(self, a: usize, e: usize) -> bool
+        requires { (a ≤ e) × (e ≤ length self.target.now) × (e ≤ length self.canvas.now) }
+        ensures { result ≡ true → NumbersIn self.entry.target.now a e × NumbersIn self.entry.canvas.now a e }
+    {
+        if e - a < 96 {
+            return false;
         }
-        s = push_numbers(target, canvas, (y * w + x) * 3, s);
+        if numbers_in(self.target, a, e) {
+            return numbers_in(self.canvas, a, e);
+        }
+        false
     }
-    s
-}
 
-// Pixels left <= x < right of row y. In a long run, looking for a NaN in all of them first is cheaper than in each by itself.
-fn push_row(
-    target: &[f32],
-    canvas: &[f32],
-    w: usize,
-    y: usize,
-    left: usize,
-    right: usize,
-    sums: Paired,
-) -> Paired
-    requires sizes { (w ≤ 256) × (y < 256) × (left ≤ right) × (right ≤ w) × (sums.count + (right - left) < 2 ^ 31) }
-    requires lent { (y * w * 3 + w * 3 ≤ length target.now) × (y * w * 3 + w * 3 ≤ length canvas.now) }
-    ensures { unpaired_of result ≡ pixels_added w target.now canvas.now y left (right - left) (unpaired_of sums) }
-{
-    if both_numbers(target, canvas, (y * w + left) * 3, (y * w + right) * 3) {
-        return push_known(target, canvas, w, y, left, right, sums);
+    // The pixel whose channels begin at place `at`, of any bits.
+    fn push_any(self, at: usize, s: Paired) -> Paired
+        requires { (at + 3 ≤ length self.target.now) × (at + 3 ≤ length self.canvas.now) × (s.count + 1 < 2 ^ 32) }
+        ensures { unpaired_of result ≡ plus (unpaired_of s) (pixel_from self.entry.target.now self.entry.canvas.now at) }
+    {
+        push_pair(
+            s,
+            float::widen(self.target[at]),
+            float::widen(self.target[at + 1]),
+            float::widen(self.target[at + 2]),
+            float::widen(self.canvas[at]),
+            float::widen(self.canvas[at + 1]),
+            float::widen(self.canvas[at + 2]),
+        )
     }
-    push_tested(target, canvas, w, y, left, right, sums)
-}
 
-// The runs of rows top to bottom, from the top row down. It is kept apart: it takes no shape, and what is around it is written out in the calls.
-#[inline(never)]
-fn push_rows(
-    runs: &[u16; 512],
-    top: usize,
-    bottom: usize,
-    target: &[f32],
-    canvas: &[f32],
-    w: usize,
-) -> Paired
-    requires sizes { (w ≤ 256) × (top ≤ bottom) × (bottom ≤ 256) × (bottom * (w * 3) ≤ length target.now) × (bottom * (w * 3) ≤ length canvas.now) }
-    requires runs { RunsFit runs.now w top bottom }
-    ensures { unpaired_of result ≡ points_added w target.now canvas.now runs.now top (bottom - top) }
-{
-    let mut s = no_pairs();
-    for y in top..bottom {
-        let left = runs[y * 2] as usize;
-        let right = runs[y * 2 + 1] as usize;
-        s = push_row(target, canvas, w, y, left, right, s);
+    // The same where none is a NaN: widened without a test.
+    fn push_numbers(self, at: usize, s: Paired) -> Paired
+        requires at_in_bounds { (at + 3 ≤ length self.target.now) × (at + 3 ≤ length self.canvas.now) × (s.count + 1 < 2 ^ 32) }
+        requires numbers_in { NumbersIn self.target.now at (at + 3) × NumbersIn self.canvas.now at (at + 3) }
+        ensures { unpaired_of result ≡ plus (unpaired_of s) (pixel_from self.entry.target.now self.entry.canvas.now at) }
+    {
+        push_pair(
+            s,
+            float::widen_number(self.target[at]),
+            float::widen_number(self.target[at + 1]),
+            float::widen_number(self.target[at + 2]),
+            float::widen_number(self.canvas[at]),
+            float::widen_number(self.canvas[at + 1]),
+            float::widen_number(self.canvas[at + 2]),
+        )
     }
-    s
+
+    // None of the pixel's channels is a NaN: a sum that is a number is of numbers alone. Two sums, which the compiler works out as a pair. Infinities
+    // of both signs make it false too, and then each channel is looked at.
+    fn numbers_at(self, at: usize) -> bool
+        requires { (at + 3 ≤ length self.target.now) × (at + 3 ≤ length self.canvas.now) }
+        ensures { result ≡ true → NumbersIn self.entry.target.now at (at + 3) × NumbersIn self.entry.canvas.now at (at + 3) }
+    {
+        let first = self.target[at + 1] + self.canvas[at + 1] + self.target[at];
+        let second = self.target[at + 2] + self.canvas[at + 2] + self.canvas[at];
+        (first == first) & (second == second)
+    }
+
+    // Pixels left <= x < right of row y, none of which is a NaN.
+    fn push_known(self, y: usize, left: usize, right: usize, sums: Paired) -> Paired
+        requires sizes { (self.w ≤ 256) × (y < 256) × (left ≤ right) × (right ≤ self.w) × (sums.count + (right - left) < 2 ^ 31) }
+        requires lent { (y * self.w * 3 + self.w * 3 ≤ length self.target.now) × (y * self.w * 3 + self.w * 3 ≤ length self.canvas.now) }
+        requires numbers { NumbersIn self.target.now ((y * self.w + left) * 3) ((y * self.w + right) * 3) × NumbersIn self.canvas.now ((y * self.w + left) * 3) ((y * self.w + right) * 3) }
+        ensures { unpaired_of result ≡ pixels_added self.entry.w self.entry.target.now self.entry.canvas.now y left (right - left) (unpaired_of sums) }
+    {
+        let mut s = sums;
+        for x in left..right {
+            s = self.push_numbers((y * self.w + x) * 3, s);
+        }
+        s
+    }
+
+    // The same of any bits.
+    fn push_run_any(self, y: usize, left: usize, right: usize, sums: Paired) -> Paired
+        requires sizes { (self.w ≤ 256) × (y < 256) × (left ≤ right) × (right ≤ self.w) × (sums.count + (right - left) < 2 ^ 31) }
+        requires lent { (y * self.w * 3 + self.w * 3 ≤ length self.target.now) × (y * self.w * 3 + self.w * 3 ≤ length self.canvas.now) }
+        ensures { unpaired_of result ≡ pixels_added self.entry.w self.entry.target.now self.entry.canvas.now y left (right - left) (unpaired_of sums) }
+    {
+        let mut s = sums;
+        for x in left..right {
+            s = self.push_any((y * self.w + x) * 3, s);
+        }
+        s
+    }
+
+    // The same: each is looked at until there is a NaN, and from there on each channel.
+    fn push_tested(self, y: usize, left: usize, right: usize, sums: Paired) -> Paired
+        requires sizes { (self.w ≤ 256) × (y < 256) × (left ≤ right) × (right ≤ self.w) × (sums.count + (right - left) < 2 ^ 31) }
+        requires lent { (y * self.w * 3 + self.w * 3 ≤ length self.target.now) × (y * self.w * 3 + self.w * 3 ≤ length self.canvas.now) }
+        ensures { unpaired_of result ≡ pixels_added self.entry.w self.entry.target.now self.entry.canvas.now y left (right - left) (unpaired_of sums) }
+    {
+        let mut s = sums;
+        for x in left..right {
+            if !self.numbers_at((y * self.w + x) * 3) {
+                return self.push_run_any(y, x, right, s);
+            }
+            s = self.push_numbers((y * self.w + x) * 3, s);
+        }
+        s
+    }
+
+    // Pixels left <= x < right of row y. In a long run, looking for a NaN in all of them first is cheaper than in each by itself.
+    fn push_row(self, y: usize, left: usize, right: usize, sums: Paired) -> Paired
+        requires sizes { (self.w ≤ 256) × (y < 256) × (left ≤ right) × (right ≤ self.w) × (sums.count + (right - left) < 2 ^ 31) }
+        requires lent { (y * self.w * 3 + self.w * 3 ≤ length self.target.now) × (y * self.w * 3 + self.w * 3 ≤ length self.canvas.now) }
+        ensures { unpaired_of result ≡ pixels_added self.entry.w self.entry.target.now self.entry.canvas.now y left (right - left) (unpaired_of sums) }
+    {
+        if self.both_numbers((y * self.w + left) * 3, (y * self.w + right) * 3) {
+            return self.push_known(y, left, right, sums);
+        }
+        self.push_tested(y, left, right, sums)
+    }
+
+    // The runs of rows top to bottom, from the top row down. It is kept apart: it takes no shape, and what is around it is written out in the calls.
+    #[inline(never)]
+    fn push_rows(self, runs: &[u16; 512], top: usize, bottom: usize) -> Paired
+        requires sizes { (self.w ≤ 256) × (top ≤ bottom) × (bottom ≤ 256) × (bottom * (self.w * 3) ≤ length self.target.now) × (bottom * (self.w * 3) ≤ length self.canvas.now) }
+        requires runs { RunsFit runs.now self.w top bottom }
+        ensures { unpaired_of result ≡ points_added self.entry.w self.entry.target.now self.entry.canvas.now runs.now top (bottom - top) }
+    {
+        let mut s = no_pairs();
+        for y in top..bottom {
+            let left = runs[y * 2] as usize;
+            let right = runs[y * 2 + 1] as usize;
+            s = self.push_row(y, left, right, s);
+        }
+        s
+    }
+
+    // The pixels that the bits say, of any values.
+    fn push_stamp_any(self, bits: u64, left: usize, top: usize, sums: Paired) -> Paired
+        requires bits { sums.count ≤ count_trailing_zeros 64 bits }
+        requires window { (left < 256) × (top < 256) × (self.w ≤ 256) }
+        requires lent { length self.canvas.now ≡ length self.target.now }
+        requires pixels { StampIn self.w left top (length self.target.now) bits }
+        ensures { unpaired_of result ≡ stamp_points self.entry.w self.entry.target.now self.entry.canvas.now left top bits (unpaired_of sums) }
+    {
+        let corner = (top * self.w + left) * 3;
+        let row = self.w * 3;
+        let mut s = sums;
+        let mut b = bits;
+        while b != 0 {
+            s = self.push_any(first_place(b, corner, row), s);
+            b = without_first(b);
+        }
+        s
+    }
 }
 
 // Where the channels of the first pixel begin that the bits say, of a picture whose rows have `row` numbers; the stamp begins at place `corner`.
@@ -297,33 +287,6 @@ fn without_first(bits: u64) -> u64
     bits & (bits - 1)
 }
 
-// The pixels that the bits say, of any values.
-fn push_stamp_any(
-    bits: u64,
-    left: usize,
-    top: usize,
-    target: &[f32],
-    canvas: &[f32],
-    w: usize,
-    sums: Paired,
-) -> Paired
-    requires bits { sums.count ≤ count_trailing_zeros 64 bits }
-    requires window { (left < 256) × (top < 256) × (w ≤ 256) }
-    requires lent { length canvas.now ≡ length target.now }
-    requires pixels { StampIn w left top (length target.now) bits }
-    ensures { unpaired_of result ≡ stamp_points w target.now canvas.now left top bits (unpaired_of sums) }
-{
-    let corner = (top * w + left) * 3;
-    let row = w * 3;
-    let mut s = sums;
-    let mut b = bits;
-    while b != 0 {
-        s = push_any(target, canvas, first_place(b, corner, row), s);
-        b = without_first(b);
-    }
-    s
-}
-
 // The pixels of a stamp, in row order. Each is looked at until there is a NaN. The next one's place is worked out before the sums of this one,
 // which the processor has to wait for.
 pub fn push_stamp(
@@ -341,16 +304,17 @@ pub fn push_stamp(
 {
     let corner = (top * w + left) * 3;
     let row = w * 3;
+    let pair = Pair { target, canvas, w };
     let mut s = no_pairs();
     let mut b = bits;
     let mut at = first_place(bits, corner, row);
     while b != 0 {
         let rest = without_first(b);
         let next = first_place(rest, corner, row);
-        if !numbers_at(target, canvas, at) {
-            return push_stamp_any(b, left, top, target, canvas, w, s);
+        if !pair.numbers_at(at) {
+            return pair.push_stamp_any(b, left, top, s);
         }
-        s = push_numbers(target, canvas, at, s);
+        s = pair.push_numbers(at, s);
         b = rest;
         at = next;
     }
@@ -376,7 +340,7 @@ pub fn reached_sums(
 {
     let mut runs = [0u16; 512];
     cover::runs(kind, w, h, &mut runs);
-    unpaired(push_rows(&runs, top, bottom, target, canvas, w))
+    unpaired(Pair { target, canvas, w }.push_rows(&runs, top, bottom))
 }
 
 // The sums of a shape whose sizes and places were tested.

@@ -1,8 +1,8 @@
 use Prim.Native.Nat.{◌+◌}
 use native.Mathlib.Omega.{arith}
-use Rattle.gather.proofs.points.push_numbers.Goals as goal
+use Rattle.gather.proofs.points.Pair.push_numbers.Goals as goal
 
--- `gather::points::push_numbers` meets its contract: no channel of the pixel is a NaN, so that each is widened by a plain cast.
+-- `gather::points::Pair::push_numbers` meets its contract: no channel of the pixel is a NaN, so that each is widened by a plain cast.
 
 pub widen_number-requires : goal.widen_number-requires
 widen_number-requires c = c.requires.numbers_in.0 c.args.at (omega arith) (omega arith)

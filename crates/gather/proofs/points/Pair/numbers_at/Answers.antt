@@ -11,9 +11,9 @@ use Rattle.laws.specs.F32.{◌⊞◌}
 use Rattle.float.specs.Within.{number}
 use Rattle.float.specs.MarksLaws.{addends}
 use Rattle.gather.specs.RunSums.{NumbersIn}
-use Rattle.gather.proofs.points.numbers_at.Goals as goal
+use Rattle.gather.proofs.points.Pair.numbers_at.Goals as goal
 
--- `gather::points::numbers_at` meets its contract: a sum that equals itself is a number, and so are its addends.
+-- `gather::points::Pair::numbers_at` meets its contract: a sum that equals itself is a number, and so are its addends.
 
 -- three numbers in a row
 three : (xs : List Float) (at : ℕ) → T (number (get_or xs at nan)) → T (number (get_or xs (at + 1) nan)) → T (number (get_or xs (at + 2) nan)) → NumbersIn xs at (at + 3)
@@ -29,8 +29,8 @@ three xs at a b c i l h = by (ℕ_discrete i at) (ℕ_discrete i (at + 1))
 
 pub returns : goal.returns
 returns c =
-    let t = c.args.target.now in
-    let v = c.args.canvas.now in
+    let t = c.args.self.target.now in
+    let v = c.args.self.canvas.now in
     let n = c.args.at in
     let x = get_or t (n + 1) nan ⊞ get_or v (n + 1) nan ⊞ get_or t n nan in
     let y = get_or t (n + 2) nan ⊞ get_or v (n + 2) nan ⊞ get_or v n nan in

@@ -1,8 +1,8 @@
 use mathlib.Core.Path.{refl}
 use Rattle.laws.specs.Fit.{no_both}
-use Rattle.gather.proofs.points.both_numbers.Goals as goal
+use Rattle.gather.proofs.points.Pair.both_numbers.Goals as goal
 
--- `gather::points::both_numbers` meets its contract: true only where both tests are.
+-- `gather::points::Pair::both_numbers` meets its contract: true only where both tests are.
 
 pub returns-then-e-a-lt96 : goal.returns-then-e-a-lt96
 returns-then-e-a-lt96 c = λ e. no_both e refl

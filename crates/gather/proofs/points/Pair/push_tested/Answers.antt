@@ -8,10 +8,10 @@ use Rattle.gather.specs.Paired.{unpaired_of}
 use Rattle.gather.specs.Gathered.{pixel_at}
 use Rattle.gather.specs.RunSumLaws.{pixels-none, pixels-more, pixels-cut}
 use native.Mathlib.Omega.{arith}
-use Rattle.gather.proofs.points.push_tested.Goals as goal
-use Rattle.gather.proofs.points.push_tested.Goals.{In-loop-x}
+use Rattle.gather.proofs.points.Pair.push_tested.Goals as goal
+use Rattle.gather.proofs.points.Pair.push_tested.Goals.{In-loop-x}
 
--- `gather::points::push_tested` meets its contract: the sums so far are those of the pixels to the left, also where a NaN ended the first loop.
+-- `gather::points::Pair::push_tested` meets its contract: the sums so far are those of the pixels to the left, also where a NaN ended the first loop.
 
 small : (y w : ℕ) → y < 256 → w ≤ 256 → y * w ≤ 65536
 small y w a b =
@@ -26,38 +26,38 @@ loop-x-init c =
       omega arith,
       c.requires.sizes.2,
       omega arith,
-      sym (pixels-none a.w a.target.now a.canvas.now a.y a.left (unpaired_of a.sums))
-          ∙ ap (λ (k : ℕ). pixels_added a.w a.target.now a.canvas.now a.y a.left k (unpaired_of a.sums)) (sym z),
+      sym (pixels-none a.self.w a.self.target.now a.self.canvas.now a.y a.left (unpaired_of a.sums))
+          ∙ ap (λ (k : ℕ). pixels_added a.self.w a.self.target.now a.self.canvas.now a.y a.left k (unpaired_of a.sums)) (sym z),
     )
 
 module _ (c : In-loop-x) where
-  place : c.loop-x.x < c.args.w
+  place : c.loop-x.x < c.args.self.w
   place = omega (arith, c.requires.sizes.3, c.loop-x-test.true)
 
   -- the pixel's three channels lie in the row
-  inside : (c.args.y * c.args.w + c.loop-x.x) * 3 + 3 ≤ c.args.y * c.args.w * 3 + c.args.w * 3
+  inside : (c.args.y * c.args.self.w + c.loop-x.x) * 3 + 3 ≤ c.args.y * c.args.self.w * 3 + c.args.self.w * 3
   inside = omega (arith, place)
 
 pub overflow_mul-y : goal.overflow_mul-y
-overflow_mul-y c = omega (arith, small c.args.y c.args.w c.requires.sizes.1 c.requires.sizes.0)
+overflow_mul-y c = omega (arith, small c.args.y c.args.self.w c.requires.sizes.1 c.requires.sizes.0)
 
 pub overflow_add-y : goal.overflow_add-y
-overflow_add-y c = omega (arith, small c.args.y c.args.w c.requires.sizes.1 c.requires.sizes.0, place (goal.at.overflow_add-y c).In-loop-x, c.requires.sizes.0)
+overflow_add-y c = omega (arith, small c.args.y c.args.self.w c.requires.sizes.1 c.requires.sizes.0, place (goal.at.overflow_add-y c).In-loop-x, c.requires.sizes.0)
 
 pub overflow_mul-y-in-loop-x : goal.overflow_mul-y-in-loop-x
-overflow_mul-y-in-loop-x c = omega (arith, small c.args.y c.args.w c.requires.sizes.1 c.requires.sizes.0, place (goal.at.overflow_mul-y-in-loop-x c).In-loop-x, c.requires.sizes.0)
+overflow_mul-y-in-loop-x c = omega (arith, small c.args.y c.args.self.w c.requires.sizes.1 c.requires.sizes.0, place (goal.at.overflow_mul-y-in-loop-x c).In-loop-x, c.requires.sizes.0)
 
 pub numbers_at-requires : goal.numbers_at-requires
 numbers_at-requires c = (omega (arith, inside (goal.at.numbers_at-requires c).In-loop-x, c.requires.lent.0), omega (arith, inside (goal.at.numbers_at-requires c).In-loop-x, c.requires.lent.1))
 
 pub overflow_mul-y-in-loop-x-2 : goal.overflow_mul-y-in-loop-x-2
-overflow_mul-y-in-loop-x-2 c = omega (arith, small c.args.y c.args.w c.requires.sizes.1 c.requires.sizes.0)
+overflow_mul-y-in-loop-x-2 c = omega (arith, small c.args.y c.args.self.w c.requires.sizes.1 c.requires.sizes.0)
 
 pub overflow_add-y-in-loop-x : goal.overflow_add-y-in-loop-x
-overflow_add-y-in-loop-x c = omega (arith, small c.args.y c.args.w c.requires.sizes.1 c.requires.sizes.0, place (goal.at.overflow_add-y-in-loop-x c).In-loop-x, c.requires.sizes.0)
+overflow_add-y-in-loop-x c = omega (arith, small c.args.y c.args.self.w c.requires.sizes.1 c.requires.sizes.0, place (goal.at.overflow_add-y-in-loop-x c).In-loop-x, c.requires.sizes.0)
 
 pub overflow_mul-y-in-loop-x-3 : goal.overflow_mul-y-in-loop-x-3
-overflow_mul-y-in-loop-x-3 c = omega (arith, small c.args.y c.args.w c.requires.sizes.1 c.requires.sizes.0, place (goal.at.overflow_mul-y-in-loop-x-3 c).In-loop-x, c.requires.sizes.0)
+overflow_mul-y-in-loop-x-3 c = omega (arith, small c.args.y c.args.self.w c.requires.sizes.1 c.requires.sizes.0, place (goal.at.overflow_mul-y-in-loop-x-3 c).In-loop-x, c.requires.sizes.0)
 
 pub push_numbers-s-requires : goal.push_numbers-s-requires
 push_numbers-s-requires c =
@@ -79,8 +79,8 @@ loop-x-preserved c =
       omega (arith, l.invariant.0),
       omega (arith, c.loop-x-test.true),
       omega (arith, ap (λ (q : ShapeSums). q.count) r, l.invariant.2, l.invariant.0),
-      r ∙ ap (λ (q : ShapeSums). plus q (pixel_at a.w a.target.now a.canvas.now a.y l.x)) l.invariant.3
-          ∙ pixels-more a.w a.target.now a.canvas.now a.y a.left l.x (unpaired_of a.sums) l.invariant.0,
+      r ∙ ap (λ (q : ShapeSums). plus q (pixel_at a.self.w a.self.target.now a.self.canvas.now a.y l.x)) l.invariant.3
+          ∙ pixels-more a.self.w a.self.target.now a.self.canvas.now a.y a.left l.x (unpaired_of a.sums) l.invariant.0,
     )
 
 -- from the first NaN on
@@ -94,12 +94,12 @@ returns-then-not-numbers_at c =
     let l = c.loop-x in
     let a = c.args in
     c.push_run_any.ensures
-    ∙ ap (pixels_added a.w a.target.now a.canvas.now a.y l.x (a.right - l.x)) l.invariant.3
-    ∙ pixels-cut a.w a.target.now a.canvas.now a.y a.left l.x a.right (unpaired_of a.sums) l.invariant.0 l.invariant.1
+    ∙ ap (pixels_added a.self.w a.self.target.now a.self.canvas.now a.y l.x (a.right - l.x)) l.invariant.3
+    ∙ pixels-cut a.self.w a.self.target.now a.self.canvas.now a.y a.left l.x a.right (unpaired_of a.sums) l.invariant.0 l.invariant.1
 
 pub returns : goal.returns
 returns c =
     let l = c.loop-x in
     let a = c.args in
     let e : l.x ≡ a.right = omega (arith, l.invariant.1, c.loop-x-test.false) in
-    l.invariant.3 ∙ ap (λ (x : ℕ). pixels_added a.w a.target.now a.canvas.now a.y a.left (x - a.left) (unpaired_of a.sums)) e
+    l.invariant.3 ∙ ap (λ (x : ℕ). pixels_added a.self.w a.self.target.now a.self.canvas.now a.y a.left (x - a.left) (unpaired_of a.sums)) e
