@@ -1,7 +1,7 @@
 -- Laws: the refusals of the calls, test by test, and what a call that is not refused knows.
 use Rattle.std.specs.Prelude.{◌≡◌, Bool, true, not, ◌||◌, List, [], ◌∷◌, ℕ, ◌+◌, ◌*◌, ◌≤◌, T, eqb, length, Float}
 use Rattle.std.proofs.Math.Path.{refl, sym, ap}
-use Rattle.std.proofs.Common.{◌∙◌, ap₂, arith, eq-eqb, ne_eqb, eqb-true}
+use Rattle.std.proofs.Common.{◌∙◌, ap₂, arith, eq-eqb, eqb-true}
 use Rattle.std.proofs.Math.Bool.{false, cond}
 use Rattle.std.proofs.lemmas.Bool.{not-false}
 use Rattle.laws.specs.Fit.{no_both}

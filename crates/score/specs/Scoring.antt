@@ -1,5 +1,5 @@
 -- Rules: document 01, "A shape is scored at one given opacity or over a list of levels", from its sums by spans or by points, and what is refused.
-use Rattle.std.specs.Prelude.{◌≡◌, Bool, false, not, ◌||◌, cond, List, [], ◌∷◌, ℕ, eqb, length, Float, ℤ}
+use Rattle.std.specs.Prelude.{◌≡◌, Bool, false, not, ◌||◌, List, [], ◌∷◌, ℕ, length, Float, ℤ}
 use Rattle.refusal.specs.Refusals.{lowest, size_if, length_if, count_if, place_if, opacity_if, bad_size}
 use Rattle.refusal.specs.Lengths.{bad_picture, bad_table}
 use Rattle.float.specs.Within.{within}

@@ -1,9 +1,7 @@
-use mathlib.Core.Path.{refl, ◌∙◌}
-use Prim.Native.Nat.{◌+◌, ◌*◌}
+use mathlib.Core.Path.{◌∙◌}
 use native.Mathlib.Omega.{arith}
-use Rattle.laws.specs.Blank.{blank}
 use Rattle.gather.specs.RunSums.{Reached}
-use Rattle.gather.specs.RunSumLaws.{none_spans, some_reached, none_reached, reached_high, reached_rows, reached_fit, reached_spans}
+use Rattle.gather.specs.RunSumLaws.{none_spans, some_reached, none_reached}
 use Rattle.gather.proofs.spans.span_sums.Goals as goal
 use Rattle.gather.proofs.spans.span_sums.Goals.{Else-rows}
 

@@ -2,13 +2,12 @@ use mathlib.Core.Path.{◌≡◌, refl, sym, ◌∙◌, ap}
 use Prim.Native.Nat.{ℕ, ◌+◌, ◌-◌, ◌≤◌, ◌<◌}
 use lib.Ieee.{of_bits, div, Float, nan}
 use lib.ListN.{get_or, take}
-use Rattle.std.proofs.lemmas.List.{get_or-take, length-take-le}
-use Rattle.std.specs.Prelude.{List, Some, None}
+use Rattle.std.proofs.lemmas.List.{get_or-take}
+use Rattle.std.specs.Prelude.{List, Some}
 use Rattle.grade.specs.Finalize.{finalized}
 use Rattle.grade.specs.Sweep.{change_at, best_of}
 use Rattle.grade.specs.SweepLaws.{best_of-taken, best_of-kept, swept-nothing, level_found, swept_none, swept-some}
 use Rattle.grade.specs.Swept.{level, change_of, swept}
-use borrow.Author.Rules.{rules}
 use native.Mathlib.Omega.{arith}
 use Rattle.grade.proofs.sweeps.sweep.Goals as goal
 use Rattle.grade.proofs.sweeps.sweep.Goals.{After-loop-level, then-change-lowest, else-change-lowest}

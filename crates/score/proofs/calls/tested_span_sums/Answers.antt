@@ -1,4 +1,4 @@
-use mathlib.Core.Path.{sym, ap, ◌∙◌}
+use mathlib.Core.Path.{sym, ◌∙◌}
 use lib.ListN.{length}
 use Rattle.refusal.specs.Outcomes.{number, outcome, Refused}
 use Rattle.refusal.specs.OutcomeLaws.{number-positive}

@@ -1,4 +1,3 @@
-use borrow.Author.Rules.{rules}
 use Rattle.sums.proofs.ShapeSums.push.Goals as goal
 
 -- `ShapeSums::push`: a widened value is the value.

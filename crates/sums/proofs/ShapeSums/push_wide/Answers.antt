@@ -1,5 +1,4 @@
 use Rattle.sums.specs.Sums.{pixel_sums}
-use borrow.Author.Rules.{rules}
 use Rattle.sums.proofs.ShapeSums.push_wide.Goals as goal
 
 -- `ShapeSums::push_wide`: the sum with one pixel's sums.
