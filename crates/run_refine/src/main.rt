@@ -107,8 +107,7 @@ fn draw_target(seed: u64, target: &mut [f32])
 // ---- what is written
 
 fn number(rt: &impl Print, n: usize) -> io::Result<()> {
-    show::text(rt, " ")?;
-    show::unsigned(rt, n as u64)
+    print!(rt; " {n}")
 }
 
 fn checksum(p: &[f32]) -> u64 {
@@ -121,17 +120,15 @@ fn checksum(p: &[f32]) -> u64 {
 
 // The shapes by their opacities.
 fn write_list(rt: &impl Print, list: Shapes) -> io::Result<()> {
-    show::text(rt, " list")?;
+    print!(rt; " list")?;
     for s in &list.items[..list.count.min(64)] {
-        show::text(rt, " ")?;
-        show::hex(rt, float::bits32(s.opacity) as u64, 8)?;
+        print!(rt; " {:08x}", float::bits32(s.opacity))?;
     }
     Ok(())
 }
 
 fn labelled(rt: &impl Print, label: &str, n: usize) -> io::Result<()> {
-    show::text(rt, label)?;
-    number(rt, n)
+    print!(rt; "{label} {n}")
 }
 
 fn write_counts(
@@ -152,11 +149,11 @@ fn write_counts(
 }
 
 fn write_pictures(rt: &impl Print, first: &[f32], second: &[f32]) -> io::Result<()> {
-    show::text(rt, " pictures ")?;
-    show::hex(rt, checksum(first), 8)?;
-    show::text(rt, " ")?;
-    show::hex(rt, checksum(second), 8)?;
-    show::text(rt, "\n")
+    println!(rt;
+        " pictures {:08x} {:08x}",
+        checksum(first),
+        checksum(second)
+    )
 }
 
 fn write_answer(rt: &impl Print, r: Refined, first: &[f32], second: &[f32]) -> io::Result<()> {
@@ -211,8 +208,7 @@ fn heading(
     m: usize,
     passes: usize,
 ) -> io::Result<()> {
-    show::text(rt, "seed ")?;
-    show::unsigned(rt, seed)?;
+    print!(rt; "seed {seed}")?;
     labelled(rt, " size", w)?;
     number(rt, h)?;
     labelled(rt, " shapes", n)?;
@@ -299,7 +295,7 @@ fn one_offer(red: f32, green: f32, blue: f32) -> Candidates {
 // the new one is 1. With 1540, 1180, 860 the two are 1e-9 apart, rounded: new + 1e-9 is old.
 fn edge(rt: &impl Print, red: f32, green: f32, blue: f32) -> io::Result<()> {
     let step = 67108864.0;
-    show::text(rt, "edge")?;
+    print!(rt; "edge")?;
     number(rt, float::bits32(red) as usize)?;
     let list = two_off_the_picture();
     let candidates = one_offer(red / step, green / step, blue / step);

@@ -45,12 +45,12 @@ fn score_of(
         count,
     };
     let r = grade::finalize(s, float::of_bits32(opacity));
-    show::unsigned(rt, r.count as u64)?;
+    print!(rt; "{}", r.count)?;
     figures::number(rt, r.change)?;
     figures::number(rt, r.red)?;
     figures::number(rt, r.green)?;
     figures::number(rt, r.blue)?;
-    show::text(rt, "\n")
+    println!(rt)
 }
 
 fn three_pixels(rt: &impl Print, opacity: u32) -> io::Result<()> {

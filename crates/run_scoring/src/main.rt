@@ -169,15 +169,14 @@ fn sweep_line(rt: &impl Print, p: &[u64; 11]) -> io::Result<bool> {
 fn eight_across(rt: &impl Print, levels: &[f32]) -> io::Result<()> {
     figures::numbers(rt, levels, 8)?;
     if levels.len() % 8 != 0 {
-        show::text(rt, "\n")?;
+        println!(rt)?;
     }
     Ok(())
 }
 
 fn levels_on(rt: &impl Print, bits: u32, levels: &mut [f32]) -> io::Result<()> {
     let no = refusal::number_of(grade::levels::alpha_levels(bits, levels));
-    show::unsigned(rt, no as u64)?;
-    show::text(rt, "\n")?;
+    println!(rt; "{no}")?;
     eight_across(rt, levels)
 }
 
@@ -229,7 +228,7 @@ fn one(rt: &impl Print, line: &[u8]) -> io::Result<bool> {
 fn each(rt: &impl Print, text: &[u8]) -> io::Result<()> {
     for line in text.split_inclusive(|b| *b == b'\n') {
         if !one(rt, line.strip_suffix(b"\n").unwrap_or(line))? {
-            show::text(rt, "bad line\n")?;
+            println!(rt; "bad line")?;
         }
     }
     Ok(())

@@ -9,8 +9,7 @@ use sums::ShapeSums;
 const MARK: f64 = 7.0;
 
 fn labelled(rt: &impl Print, label: &str, n: usize) -> io::Result<()> {
-    show::text(rt, label)?;
-    show::unsigned(rt, n as u64)
+    print!(rt; "{label}{n}")
 }
 
 // How many numbers of a marked table were written, beside the call's number.
@@ -18,7 +17,7 @@ fn answer(rt: &impl Print, no: Result<(), Refusal>, table: &[f64]) -> io::Result
     let marks = [MARK; 150];
     labelled(rt, ": ", refusal::number_of(no) as usize)?;
     labelled(rt, ", numbers written ", figures::differing(table, &marks))?;
-    show::text(rt, "\n")
+    println!(rt)
 }
 
 // ---- an update of 3 rows of 2 pixels: the canvas has changed in every row
@@ -29,7 +28,7 @@ fn row_shown(rt: &impl Print, y: usize, old: &[f64], new: &[f64], fresh: &[f64])
     }
     labelled(rt, " ", y)?;
     if figures::differing(new, fresh) != 0 {
-        show::text(rt, " (not as built)")?;
+        print!(rt; " (not as built)")?;
     }
     Ok(())
 }
@@ -54,12 +53,10 @@ fn update_heading(
     ymax: i32,
     no: Result<(), Refusal>,
 ) -> io::Result<()> {
-    show::text(rt, "update ")?;
-    show::signed32(rt, ymin)?;
-    show::text(rt, " to ")?;
-    show::signed32(rt, ymax)?;
-    labelled(rt, ": ", refusal::number_of(no) as usize)?;
-    show::text(rt, ", redone")
+    print!(rt;
+        "update {ymin} to {ymax}: {}, redone",
+        refusal::number_of(no)
+    )
 }
 
 fn slopes(target: &mut [f32], canvas: &mut [f32], changed: &mut [f32]) {
@@ -81,7 +78,7 @@ fn update(rt: &impl Print, ymin: i32, ymax: i32) -> io::Result<()> {
     let _ = table::build(&target, &changed, 2, 3, &mut fresh);
     update_heading(rt, ymin, ymax, no)?;
     rows_shown(rt, &old, &new, &fresh)?;
-    show::text(rt, "\n")
+    println!(rt)
 }
 
 fn updates(rt: &impl Print) -> io::Result<()> {
@@ -98,7 +95,7 @@ fn updates(rt: &impl Print) -> io::Result<()> {
 // ---- refusals: pictures of nt and nc numbers, a table of n, and a pixel of the target and of the canvas
 
 fn asked(rt: &impl Print, w: usize, h: usize, nt: usize, nc: usize, n: usize) -> io::Result<()> {
-    show::unsigned(rt, w as u64)?;
+    print!(rt; "{w}")?;
     labelled(rt, "x", h)?;
     labelled(rt, ", lengths ", nt)?;
     labelled(rt, " ", nc)?;
@@ -106,7 +103,7 @@ fn asked(rt: &impl Print, w: usize, h: usize, nt: usize, nc: usize, n: usize) ->
 }
 
 fn asked_pixels(rt: &impl Print, pt: f32, pc: f32) -> io::Result<()> {
-    show::text(rt, ", pixels")?;
+    print!(rt; ", pixels")?;
     figures::number(rt, pt)?;
     figures::number(rt, pc)
 }
@@ -175,7 +172,7 @@ fn build(
     pt: f32,
     pc: f32,
 ) -> io::Result<()> {
-    show::text(rt, "build ")?;
+    print!(rt; "build ")?;
     ask(rt, false, w, h, nt, nc, n, pt, pc)
 }
 
@@ -189,7 +186,7 @@ fn refresh(
     pt: f32,
     pc: f32,
 ) -> io::Result<()> {
-    show::text(rt, "update ")?;
+    print!(rt; "update ")?;
     ask(rt, true, w, h, nt, nc, n, pt, pc)
 }
 
@@ -254,7 +251,7 @@ fn span_heading(rt: &impl Print, left: usize, right: usize, count: u32) -> io::R
     labelled(rt, "span ", left)?;
     labelled(rt, " to ", right)?;
     labelled(rt, ", ", count as usize)?;
-    show::text(rt, " pixels\n")
+    println!(rt; " pixels")
 }
 
 // Pixels left to right added to sums over five others.
@@ -314,14 +311,14 @@ fn small(rt: &impl Print) -> io::Result<()> {
     let canvas = [0.5f32, 0.25, -0.0, 0.3, 0.6, 1.0];
     let mut places = [7.0; 45];
     let _ = table::build(&target, &canvas, 2, 1, &mut places);
-    show::text(rt, "built\n")?;
+    println!(rt; "built")?;
     three_places(rt, &places)?;
     span(rt, &places, 0, 1)?;
     span(rt, &places, 0, 2)?;
     span(rt, &places, 1, 2)?;
     let changed = [0.9f32, 0.8, 0.7, 0.6, float::of_bits32(0x7fc0_0000), 0.4];
     let _ = table::update_canvas_rows(&target, &changed, 2, 1, &mut places, 0, 0);
-    show::text(rt, "updated, with a NaN\n")?;
+    println!(rt; "updated, with a NaN")?;
     three_places(rt, &places)
 }
 
@@ -331,7 +328,7 @@ fn tall(rt: &impl Print) -> io::Result<()> {
     let canvas = [0.5f32, 0.25, -0.0, 0.3, 0.6, 1.0];
     let mut places = [7.0; 60];
     let _ = table::build(&target, &canvas, 1, 2, &mut places);
-    show::text(rt, "built, 2 rows\n")?;
+    println!(rt; "built, 2 rows")?;
     three_places(rt, &places[0..45])?;
     place(rt, &places[45..60])
 }
