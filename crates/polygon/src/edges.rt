@@ -86,11 +86,11 @@ fn sloped_edge(a: i32, c: i32, s: i32) -> Edge
     let start = start_of(a, c);
     let step = step_of(a, s);
     Edge {
-        start: start,
-        step: step,
-        times: times,
-        most: most,
-        digits: digits,
+        start,
+        step,
+        times,
+        most,
+        digits,
         begins: 0 < a,
     }
 }
@@ -110,8 +110,8 @@ fn level_edge(s: i32, yi: i32) -> Edge
     let start = (1 - turn * yi) * 257;
     let step = turn * 257;
     Edge {
-        start: start,
-        step: step,
+        start,
+        step,
         times: 2147483649,
         most: 257,
         digits: 31,

@@ -63,10 +63,7 @@ pub fn extent_of(zs: &[i32]) -> Extent
         least = least.min(z);
         greatest = greatest.max(z);
     }
-    Extent {
-        least: least,
-        greatest: greatest,
-    }
+    Extent { least, greatest }
 }
 
 // Writes row y's run, two places a row.
@@ -87,10 +84,7 @@ fn closed(left: u32, right: u32) -> Run
     if right <= left {
         return Run { left: 0, right: 0 };
     }
-    Run {
-        left: left,
-        right: right,
-    }
+    Run { left, right }
 }
 
 // The run of a row. The edge that a triangle has not stands last, and the test for it is the same in every row.
