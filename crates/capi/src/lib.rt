@@ -37,6 +37,7 @@ pub mod tables;
 #[repr(C)]
 #[derive(Clone, Copy)]
 pub struct SillbadgerAnswer {
+    // Kept: the C interface needs a number.
     pub refusal: u32,
     pub count: u32,
     pub opacity: f32,
@@ -105,6 +106,7 @@ fn count_of(kind: Kind, w: u32, h: u32) -> i64
 }
 
 // The last covered column of row y, or the first.
+// Kept: the new form is no plainer: a closure that takes the one or the other of two numbers has a contract of its own at each of six calls.
 fn end_of(kind: Kind, w: u32, h: u32, y: i32, last: bool) -> i64
     ensures { result ≡ exported (refusal_of kind w h) (end_of last (row_ends kind w h y)) }
 {

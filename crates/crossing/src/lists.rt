@@ -42,12 +42,14 @@ fn bad_lengths(n: usize, places: usize, paints: usize) -> bool
     false
 }
 
+// Kept: `gaps` is a part of the rule (`sized_or`), which `BadListSays` names, and it picks no code.
 fn size_fits(n: u8, gaps: bool) -> bool
     ensures { result ≡ sized_or gaps n }
 {
     crate::is_sized(n as usize) | (gaps & (n == 0))
 }
 
+// Kept: as above.
 fn sizes_fit(sizes: &[u8], gaps: bool) -> bool
     ensures { result ≡ every (sized_or gaps) sizes.now }
 {
@@ -56,6 +58,7 @@ fn sizes_fit(sizes: &[u8], gaps: bool) -> bool
 
 // The slices are no list: their lengths do not fit each other, or a number of coordinates is one that no kind has. With
 // `gaps` an entry may be nothing.
+// Kept: `gaps` stands in the promise.
 pub fn bad_list(sizes: &[u8], places: &[i32], paints: &[f32], gaps: bool) -> bool
     ensures { BadListSays sizes.now places.now paints.now gaps result }
 {
@@ -65,6 +68,7 @@ pub fn bad_list(sizes: &[u8], places: &[i32], paints: &[f32], gaps: bool) -> boo
     !sizes_fit(sizes, gaps)
 }
 
+// Kept: the new form is no plainer: a byte is widened at an index, whose range this clause says.
 fn wide(x: u8) -> usize
     ensures { result ≡ x }
 {

@@ -207,6 +207,7 @@ pub struct Values {
 }
 
 // What a line is answered.
+// Kept: `Refused` holds a number, see there.
 #[derive(Clone, Copy)]
 pub enum Answer {
     // 81: a new picture

@@ -261,6 +261,7 @@ impl<'a> Pair<'a> {
         let row = self.w * 3;
         let mut s = sums;
         let mut b = bits;
+        // Kept: no index is counted; the bits that are left are what is gone through.
         while b != 0 {
             s = self.push_any(first_place(b, corner, row), s);
             b = without_first(b);
@@ -308,6 +309,7 @@ pub fn push_stamp(
     let mut s = no_pairs();
     let mut b = bits;
     let mut at = first_place(bits, corner, row);
+    // Kept: no index is counted; the bits that are left are what is gone through.
     while b != 0 {
         let rest = without_first(b);
         let next = first_place(rest, corner, row);

@@ -64,6 +64,7 @@ pub fn add_stamp(bits: u64, left: usize, top: usize, table: &[f64], w: usize) ->
     let mut s = ShapeSums::new();
     let mut b = bits;
     let mut y = top;
+    // Kept: it ends where no bit is left; a `for` over rows would go on, or need a test and a `break`.
     while b != 0 {
         let row = (b % 256) as u32;
         if row != 0 {

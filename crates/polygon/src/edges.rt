@@ -27,6 +27,7 @@ pub(crate) struct Edge {
 }
 
 // t, brought into 0..most. The first test is written out: with `t.max(0)` a quad on 256 by 256 took 1025 ns, and takes 961.
+// Kept beside `clamp_i64`: the new form is no plainer: the numbers have 32 bits here, so that four rows are worked out at a time.
 fn brought(t: i32, most: u32) -> u32
     ensures { ClampI64Says t most result }
 {

@@ -23,6 +23,7 @@ use refusal::Refusal;
 #[repr(C)]
 #[derive(Clone, Copy)]
 pub struct ProbedMean {
+    // Kept: the C interface needs a number.
     pub number: u8,
     pub red: f32,
     pub green: f32,
@@ -32,6 +33,7 @@ pub struct ProbedMean {
 #[repr(C)]
 #[derive(Clone, Copy)]
 pub struct ProbedTotal {
+    // Kept: the C interface needs a number.
     pub number: u8,
     pub total: f64,
 }
@@ -39,11 +41,13 @@ pub struct ProbedTotal {
 #[repr(C)]
 #[derive(Clone, Copy)]
 pub struct ProbedReach {
+    // Kept: the C interface needs a number.
     pub number: u8,
     pub first: i32,
     pub last: i32,
 }
 
+// Kept: the C interface needs a number.
 pub fn probe_filled_canvas(w: usize, h: usize, colour: Colour, canvas: &mut [f32]) -> u8
     ensures { ProbeFilledCanvasSays w h colour.red colour.green colour.blue canvas.old result canvas.new }
 {
@@ -114,6 +118,7 @@ fn blended(
 }
 
 // A shape is a slice of coordinates: cx, cy, r, or the corners of a triangle or a quad; another length is refusal 2.
+// Kept: the C interface needs a number.
 pub fn probe_blend(
     w: usize,
     h: usize,

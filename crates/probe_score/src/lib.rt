@@ -53,6 +53,7 @@ pub struct ProbedScore {
 #[repr(C)]
 #[derive(Clone, Copy)]
 pub struct ProbedAnswer {
+    // Kept: the C interface needs a number.
     pub refused: u8,
     pub opacity: f32,
     pub count: u32,
@@ -71,6 +72,7 @@ pub struct ProbedCollected {
     pub s_c2: [f64; 3],
     pub s_tc: [f64; 3],
     pub count: u32,
+    // Kept: the C interface needs a number.
     pub refused: u8,
 }
 
@@ -126,6 +128,7 @@ fn kind_of(kind: u8, x0: i32, y0: i32, x1: i32, y1: i32, x2: i32, y2: i32, x3: i
     Kind::Quad(x0, y0, x1, y1, x2, y2, x3, y3)
 }
 
+// Kept, here and below: the C interface has no enum with values.
 fn request_of(single: bool, opacity: f32, n: usize) -> Request
     ensures { result ≡ request_of single opacity n }
 {

@@ -87,6 +87,7 @@ pub fn refine_shapes(
         &mut strokes,
     );
     let mut limit = courses::most(n, passes);
+    // Kept: no index is counted; the limit falls where a pass accepts nothing.
     while c.passes < limit {
         let before = c.acceptances;
         c = courses::restart(w, h, red, green, blue, c, first);

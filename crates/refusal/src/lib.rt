@@ -1,4 +1,4 @@
-// Document 01's refusal numbers, and the tests of sizes and places that every entry point shares.
+// Document 01's refusals, and the tests of sizes and places that every entry point shares.
 #![tactic(auto)]
 
 ghost use Rattle.std.specs.Prelude.{◌≤◌};
@@ -43,6 +43,7 @@ impl Refusal {
 }
 
 // The number of what a call without a value answers: 0 where it is done.
+// Kept: the C interface needs a number.
 pub fn number_of(done: Result<(), Refusal>) -> u8
     ensures { NumberOfSays done result }
 {
@@ -51,20 +52,6 @@ pub fn number_of(done: Result<(), Refusal>) -> u8
         Err(no) => no.number(),
     }
 }
-
-pub const SIZE: u8 = 1;
-
-pub const LENGTH: u8 = 2;
-
-pub const COUNT: u8 = 3;
-
-pub const PLACE: u8 = 4;
-
-pub const OPACITY: u8 = 5;
-
-pub const COLOUR: u8 = 6;
-
-pub const PIXEL: u8 = 7;
 
 // w or h outside 1..256
 #[tactic(auto, unfolding(crate::specs::Refusals::bad_size))]

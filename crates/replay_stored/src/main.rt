@@ -118,6 +118,7 @@ fn agrees(line: &[u8]) -> bool {
     m == 1 && number_agrees(&line[0..name], n, x, y, answer)
 }
 
+// Kept: `same` picks nothing, it is what is counted.
 fn counted(t: Tally, same: bool) -> Tally {
     Tally {
         cases: t.cases.wrapping_add(1),

@@ -12,6 +12,7 @@ use sums::ShapeSums;
 
 // The sums of the pixels before each place: all fifteen, or the nine that read the canvas.
 // Rows that are known to have no NaN take the quicker step.
+// Kept: what may not change: `RebuildRowSays` names `whole`, and a clause `numbers`.
 pub fn rebuild_row(
     row: &mut [f64],
     target: &[f32],

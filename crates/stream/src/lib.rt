@@ -21,6 +21,7 @@ struct Running {
 }
 
 impl Running {
+    // Kept: `probe_session` has the same, see there.
     fn start() -> Running
         ensures { Stands result }
     {

@@ -232,6 +232,7 @@ fn all_numbers(target: &[f32], canvas: &[f32], from: usize, to: usize) -> bool
 }
 
 // Row y's part of the table is lent on, and row y of each picture.
+// Kept: `whole` and `numbers` are handed on to `rebuild_row`, whose promise names the one and whose clause the other.
 fn rebuild_at(
     target: &[f32],
     canvas: &[f32],

@@ -14,6 +14,7 @@ pub fn total_within(target: &[f32], canvas: &[f32]) -> Option<f64>
     let n = target.len();
     let mut sum = 0.0f64;
     let mut i = 0;
+    // Kept: a `for` over parts is slower, see above.
     while i < n {
         let e = part_end(i, n);
         if !both_within(target, canvas, i, e) {
@@ -54,6 +55,7 @@ fn add_squares(target: &[f32], canvas: &[f32], from: usize, to: usize, before: f
 {
     let mut sum = before;
     let mut k = from;
+    // Kept: a `for` over eights is slower, see `total_within`.
     while 8 <= to - k {
         sum = add_each(target, canvas, k, k + 8, sum);
         k += 8;
