@@ -49,7 +49,7 @@ pub struct ProbedScore {
     pub blue: f32,
 }
 
-// A score, or the number of the refusal and zeros.
+// A score, or the number of the refusal and zeros. Kept: the number beside the values, the C interface needs it.
 #[repr(C)]
 #[derive(Clone, Copy)]
 pub struct ProbedAnswer {
@@ -63,6 +63,7 @@ pub struct ProbedAnswer {
     pub blue: f32,
 }
 
+// Sums, or the number of the refusal and zeros. Kept: as above.
 #[repr(C)]
 #[derive(Clone, Copy)]
 pub struct ProbedCollected {
