@@ -6,12 +6,9 @@ use std::io;
 // A picture's columns and rows, how many numbers of target, canvas and table are lent, and a pixel of the target and of the canvas.
 type Case = (usize, usize, usize, usize, usize, f32, f32);
 
-fn ask<F: Fn(&[f32], &[f32], usize, usize, &mut [f64]) -> Result<(), Refusal>>(
-    rt: &impl Print,
-    name: &str,
-    call: &F,
-    case: Case,
-) -> io::Result<()>
+fn ask<F>(rt: &impl Print, name: &str, call: &F, case: Case) -> io::Result<()>
+where
+    F: Fn(&[f32], &[f32], usize, usize, &mut [f64]) -> Result<(), Refusal>,
     requires { F.IsAlwaysCallable call.now }
 {
     let (w, h, nt, nc, n, pt, pc) = case;
