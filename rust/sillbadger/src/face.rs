@@ -6,6 +6,7 @@
 #[derive(Clone, Copy, Debug, PartialEq)]
 #[repr(C)]
 pub struct SillbadgerAnswer {
+    // Kept: the C interface needs a number.
     pub refusal: u32,
     pub count: u32,
     pub opacity: f32,
