@@ -47,7 +47,7 @@ pub struct ProbedReach {
     pub last: i32,
 }
 
-// Kept: the C interface needs a number.
+// Kept: its promise `ProbeFilledCanvasSays` is about the number, which `probe_picture_c` hands on to C.
 pub fn probe_filled_canvas(w: usize, h: usize, colour: Colour, canvas: &mut [f32]) -> u8
     ensures { ProbeFilledCanvasSays w h colour.red colour.green colour.blue canvas.old result canvas.new }
 {
@@ -118,7 +118,7 @@ fn blended(
 }
 
 // A shape is a slice of coordinates: cx, cy, r, or the corners of a triangle or a quad; another length is refusal 2.
-// Kept: the C interface needs a number.
+// Kept: its promise `ProbeBlendSays` is about the number, which `probe_picture_c` hands on to C.
 pub fn probe_blend(
     w: usize,
     h: usize,
