@@ -49,11 +49,15 @@ fn size_fits(n: u8, gaps: bool) -> bool
     crate::is_sized(n as usize) | (gaps & (n == 0))
 }
 
-// Kept: as above.
+// It has no way out, so that it is vectorised: a list that is far too long is looked through before it is refused. Kept: as above.
 fn sizes_fit(sizes: &[u8], gaps: bool) -> bool
     ensures { result ≡ every (sized_or gaps) sizes.now }
 {
-    sizes.iter().all(|n| size_fits(*n, gaps))
+    let mut ok = true;
+    for n in sizes {
+        ok = ok & size_fits(*n, gaps);
+    }
+    ok
 }
 
 // The slices are no list: their lengths do not fit each other, or a number of coordinates is one that no kind has. With

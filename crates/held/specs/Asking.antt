@@ -33,5 +33,6 @@ asked_of f = outcome f
 abbrev pub StartSays : State → Type 0
 StartSays r = r ≡ no_picture
 
-abbrev pub AskSays : Result Request Refusal → Outcome Request → Type 0
-AskSays f r = r ≡ asked_of f
+-- whatever a frame is refused with
+abbrev pub AskSays : {E : Type 0} → Result Request E → Result Request E → Type 0
+AskSays f r = r ≡ f

@@ -4,7 +4,7 @@ use Rattle.std.proofs.Common.{sym, ap, ◌∙◌, arith, length-append, take_at}
 use Rattle.lines.specs.declared.Line.{Line}
 use Rattle.lines.specs.Lines.{Told, whole, too_long, heard}
 use Rattle.refusal.specs.declared.Refusal.{Refusal}
-use Rattle.refusal.specs.Outcomes.{Outcome, Done}
+use Rattle.refusal.specs.Outcomes.{Done, outcome}
 use Rattle.frame.specs.declared.Request.{Request}
 use Rattle.frame.specs.declared.Request.TheVariants.{New, Row, Score, Paint}
 use Rattle.frame.specs.declared.Read.{Read}
@@ -16,8 +16,12 @@ use Rattle.held.specs.Asking.{request_of, Carried, asked_of, StartSays, AskSays}
 pub StartSays-unique : (r k : State) → StartSays r → StartSays k → r ≡ k
 StartSays-unique r k p q = p ∙ sym q
 
-pub AskSays-unique : (f : Result Request Refusal) (r k : Outcome Request) → AskSays f r → AskSays f k → r ≡ k
+pub AskSays-unique : {E : Type 0} (f r k : Result Request E) → AskSays f r → AskSays f k → r ≡ k
 AskSays-unique f r k p q = p ∙ sym q
+
+-- of a frame that has a request or a refusal's number: the same request, or the same number
+pub ask-told : (f r : Result Request Refusal) → AskSays f r → outcome r ≡ asked_of f
+ask-told f r p = ap outcome p
 
 -- ---- a request that was read: its bytes carry it, and it is the one that the line asks for
 -- the rule's request by value, with the bytes of its frame

@@ -1,11 +1,9 @@
 // What the program holds between two frames, by value, and what a frame asks for. Apart from `session`, so that its edits are quick to refuse.
 #![tactic(auto)]
 
-ghost use Rattle.refusal.specs.Outcomes.{outcome};
 ghost use Rattle.held.specs.Asking.{StartSays, AskSays};
 
 use frame::Request;
-use refusal::Refusal;
 
 // The sizes of the picture, width 0 before there is one, and whether it was painted on.
 #[derive(Clone, Copy)]
@@ -26,9 +24,9 @@ pub fn start() -> State
     }
 }
 
-// What a frame asks for.
-pub fn ask(frame: Result<Request, Refusal>) -> Result<Request, Refusal>
-    ensures { AskSays frame (outcome result) }
+// What a frame asks for, or what it is refused with, whatever that is: a `Refusal`, or a number.
+pub fn ask<E>(frame: Result<Request, E>) -> Result<Request, E>
+    ensures { AskSays frame result }
 {
     // Kept: what may not change needs this step (`AskSays`, and the edits score_paints and sides_swapped).
     frame

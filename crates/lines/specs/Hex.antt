@@ -1,10 +1,11 @@
 -- Rules: document 01, "The program": bytes as hexadecimal digits, two a byte, capitals out and either case in.
 use Rattle.std.specs.Prelude.{◌≡◌, ◌&&◌, cond, List, [], ◌∷◌, ◌++◌, map, ℕ, ◌+◌, ◌-◌, ◌/◌, ◌%◌, ◌<◌, ◌≤◌, ltb, leb, length, drop}
-use Rattle.refusal.specs.Outcomes.{Outcome, Done, Refused}
+use Rattle.refusal.specs.declared.Refusal.TheVariants.{Malformed}
+use Rattle.refusal.specs.Outcomes.{Outcome, Done, Refused, number}
 
 -- the number of a malformed line
 abbrev pub malformed : ℕ
-malformed = 8
+malformed = number Malformed
 
 -- a property of each element of a list
 abbrev pub Each : {A : Type 0} → (A → Type 0) → List A → Type 0

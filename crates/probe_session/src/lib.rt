@@ -6,6 +6,7 @@ ghost use Rattle.probe_session.specs.Running.{Stands};
 use frame::Answer;
 use held::State;
 use lines::Line;
+use refusal::Refusal;
 
 // The running state with the pictures and the table that stand for it. Kept: the same stands in `stream`; a rule of the project, for what
 // both would share is public, and a public function promises all that it does.
@@ -35,21 +36,19 @@ impl Running {
         ensures { Stands self.new }
     {
         let read = frame::read_line(line, text);
-        match held::ask(read.frame) {
-            Ok(request) => {
-                let stepped = session::step(
-                    self.state,
-                    request,
-                    &read.bytes,
-                    &mut self.target,
-                    &mut self.canvas,
-                    &mut self.table,
-                );
-                self.state = stepped.state;
-                stepped.answer
-            }
-            Err(refusal) => Answer::Refused(refusal.number()),
-        }
+        let Ok(request) = held::ask(read.frame) else {
+            return Answer::Refused(Refusal::Malformed.number());
+        };
+        let stepped = session::step(
+            self.state,
+            request,
+            &read.bytes,
+            &mut self.target,
+            &mut self.canvas,
+            &mut self.table,
+        );
+        self.state = stepped.state;
+        stepped.answer
     }
 }
 

@@ -7,6 +7,7 @@ ghost use Rattle.stream.specs.Running.{Stands};
 use frame::Answer;
 use held::State;
 use lines::Line;
+use refusal::Refusal;
 use std::io;
 use std::io::Read;
 
@@ -39,21 +40,19 @@ impl Running {
         ensures { Stands self.new }
     {
         let read = frame::read_line(line, text);
-        match held::ask(read.frame) {
-            Ok(request) => {
-                let stepped = session::step(
-                    self.state,
-                    request,
-                    &read.bytes,
-                    &mut self.target,
-                    &mut self.canvas,
-                    &mut self.table,
-                );
-                self.state = stepped.state;
-                stepped.answer
-            }
-            Err(refusal) => Answer::Refused(refusal.number()),
-        }
+        let Ok(request) = held::ask(read.frame) else {
+            return Answer::Refused(Refusal::Malformed.number());
+        };
+        let stepped = session::step(
+            self.state,
+            request,
+            &read.bytes,
+            &mut self.target,
+            &mut self.canvas,
+            &mut self.table,
+        );
+        self.state = stepped.state;
+        stepped.answer
     }
 }
 

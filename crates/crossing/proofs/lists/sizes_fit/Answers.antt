@@ -1,19 +1,21 @@
-use Rattle.std.proofs.Common.{rules, tests, ◌≡◌, refl, sym, ◌∙◌, ap, ℕ, Bool, List, [], ◌∷◌, ◌&&◌}
-use Rattle.std.specs.List.{list_all}
-use Rattle.std.proofs.lemmas.Iterator.{YieldsList-from_slice}
-use Rattle.std.proofs.lemmas.Iterator.Search.{all_from_yields_List}
+use Rattle.std.proofs.Common.{refl, arith}
 use Rattle.laws.specs.Every.{every}
+use Rattle.laws.specs.EveryLaws.{every-step, every-end}
 use Rattle.crossing.specs.Crossed.{sized_or}
 use Rattle.crossing.proofs.lists.sizes_fit.Goals as goal
 
--- What `all` tells of the sizes.
+-- The loop carries the test of the sizes passed.
 
-same : (p : ℕ → Bool) (xs : List ℕ) → list_all p xs ≡ every p xs
+pub loop-n-init : goal.loop-n-init
 unfolding every
-same p [] = refl
-same p (x ∷ xs) = ap (λ (b : Bool). p x && b) (same p xs)
+loop-n-init c = refl
+
+pub loop-n-preserved : goal.loop-n-preserved
+loop-n-preserved c =
+    let a = c.args in
+    every-step (sized_or a.gaps) a.sizes.now c.loop-n.n-index 0 c.loop-n.ok c.size_fits-ok.result (omega arith) c.loop-n.invariant c.size_fits-ok.ensures
 
 pub returns : goal.returns
 returns c =
-    let xs = c.args.sizes.now in
-    all_from_yields_List (sized_or c.args.gaps) _ _ _ c.all.ensures.ran (YieldsList-from_slice xs cc) (λ x b q k. search (rules, tests)) ∙ same _ xs
+    let a = c.args in
+    every-end (sized_or a.gaps) a.sizes.now c.loop-n.n-index c.loop-n.ok (omega arith) c.loop-n.invariant
